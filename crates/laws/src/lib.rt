@@ -1,0 +1,1 @@
+// No code: the definitions and laws that the proofs of the other crates share.
