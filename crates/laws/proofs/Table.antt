@@ -1,6 +1,6 @@
 -- The laws of `tabulate`: its length and entries, and a list that is filled from the front, store by store. Assumes nothing.
 use mathlib.Core.Path.{_≡_, refl, sym, _∙_}
-use mathlib.Core.List.{List, [], _∷_, _++_}
+use mathlib.Core.List.{List, [], _∷_, _++_, map, map-append}
 use mathlib.Core.Logic.{⊎-elim}
 use Prim.Native.Nat.{ℕ, zero, suc, _+_, _<_, _≤_}
 use native.Mathlib.Omega.{arith}
@@ -34,3 +34,7 @@ module _ {ℓ} {A : Type ℓ} where
   -- the loop's end
   pub tabulate-whole : (l : List A) (n : ℕ) (f : ℕ → A) → length l ≡ n → take n l ≡ tabulate n f → l ≡ tabulate n f
   tabulate-whole l n f h p = sym (take-all n l (omega arith)) ∙ p
+
+pub map-tabulate {ℓ κ} : {A : Type ℓ} {B : Type κ} (g : A → B) (n : ℕ) (f : ℕ → A) → map g (tabulate n f) ≡ tabulate n (λ i. g (f i))
+map-tabulate g zero f = refl
+map-tabulate g (suc n) f = map-append g (tabulate n f) (f n ∷ []) ∙ rw (map-tabulate g n f)
