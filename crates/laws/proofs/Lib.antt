@@ -5,3 +5,7 @@ pub mod Sums
 pub mod Is
 pub mod Finite
 pub mod Scaled
+pub mod Visit
+pub mod Sets
+pub mod Window
+pub mod FloatSums
