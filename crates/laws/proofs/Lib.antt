@@ -9,3 +9,6 @@ pub mod Visit
 pub mod Sets
 pub mod Window
 pub mod FloatSums
+pub mod Law
+pub mod LoopLaw
+pub mod Limits

@@ -6,3 +6,4 @@ pub mod Scaled
 pub mod Window
 pub mod Sets
 pub mod FloatSums
+pub mod Law
