@@ -9,9 +9,8 @@ use Rattle.laws.specs.Loop.{loop}
 use Rattle.laws.specs.Table.{range}
 use Rattle.laws.specs.Window.{window, at}
 use Rattle.laws.specs.Sums.{sumTo, span}
-use Rattle.laws.specs.Scaled.{ofScaled, Holds}
+use Rattle.laws.specs.Scaled.{plusZero, ofScaled, Holds}
 use Rattle.laws.specs.Sets.{NoDup}
-use Rattle.laws.specs.FloatSums.{plusZero}
 use Rattle.laws.specs.Law.{Limit, Held, Product, Positions}
 use Rattle.laws.proofs.Sums.{sum-upto}
 use Rattle.laws.proofs.Window.{in-range, range-nodup, length-range, in-window, window-nodup, length-window, sum-window}
