@@ -57,11 +57,10 @@ impl RandomRegister {
             & 1;
         let moved = (r >> 1) | (bit << Self::ENTRY);
         let top = (moved >> (Self::WIDTH - bits)) & ((1u32 << bits) - 1);
+        let state = moved as u16;
         Stepped {
             draw: Draw::Value(top),
-            register: RandomRegister {
-                state: moved as u16,
-            },
+            register: RandomRegister { state },
         }
     }
 }

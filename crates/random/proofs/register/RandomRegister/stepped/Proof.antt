@@ -33,8 +33,8 @@ coded : (r : ℕ) → bitOr (r / 2 ^ 1) (bitAnd (bitXor (bitXor (bitXor (r / 2 ^
 unfolding shifted
 coded r = rw (div-one r)
 
-cast-t17 : tie.Need-cast-t17
-cast-t17 c =
+cast-state : tie.Need-cast-state
+cast-state c =
     let r = c .before .before .args .self .state in
     let h : r < 2 ^ 16 = search needs in
     record { fits = rw (coded r, shifted-is-moved r h) (moved-lt r h) }
@@ -50,4 +50,4 @@ returns-2 c =
     rw (coded r, answers-agree r bits h l, shifted-is-moved r h) (sym (step-accepted g bits l))
 
 pub stepped-spec : {M : Type 1} → statement M
-stepped-spec = tie.close (tie.spec returns cast-r shr-top shl-top sub-top cast-t17 returns-2)
+stepped-spec = tie.close (tie.spec returns cast-r shr-top shl-top sub-top cast-state returns-2)
