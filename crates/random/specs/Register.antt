@@ -12,7 +12,7 @@ use Rattle.random.specs.declared.register.Draw.the-variants.{Refused, Va
 abbrev pub refusal : ℕ → ℕ
 refusal bits = firstNo (bitsKnown bits ∷ [])
 
--- an answer with that number: 0 brings the value, any other is a refusal
+-- the answer for each case of that number: at 0 the value, else the refusal with it
 abbrev pub answered : ℕ → ℕ → Draw
 answered zero value = Value value
 answered (suc n) value = Refused (suc n)

@@ -31,15 +31,17 @@ impl RandomRegister {
     // The bit where the new bit enters.
     pub const ENTRY: u32 = 15;
 
+    // The bits that it holds.
     pub const WIDTH: u32 = 16;
 
+    // The register that holds the seed.
     pub fn new(seed: u16) -> Self
         ensures { λ r. ⌜ r .state ≡ seed ⌝ }
     {
         Self { state: seed }
     }
 
-    // The top bits asked for of the register after one step: r >> 1, with the taps' xor at bit 15.
+    // The top bits asked for of the register after a step: r >> 1, with the taps' xor at bit 15. Above 16 bits: 9, and the register as it was.
     pub fn stepped(self, bits: u32) -> Stepped
         ensures { λ r. ⌜ r ≡ step self bits ⌝ }
     {
