@@ -2,7 +2,7 @@
 use mathlib.Core.Path.{_≡_, refl, sym, ap, _∙_}
 use mathlib.Core.List.{List, [], _∷_, _++_, map}
 use Prim.Native.Nat.{ℕ, zero, suc, _+_, _-_, _*_, _≤_, _<_, zero-le}
-use native.Mathlib.Nat.{le-refl, le-step, le-trans, le-of-eq, lt-suc-self, zero-add, add-zero, add-suc, add-comm, sub-zero, add-le-add, zero-mul, suc-mul}
+use native.Mathlib.Nat.{le-step, le-trans, le-of-eq, lt-suc-self, zero-add, add-zero, add-suc, add-comm, sub-zero, add-le-add, zero-mul, suc-mul}
 use native.Mathlib.Numerals.{add-one}
 use lib.IntN.{ℤ, pos, negℤ, natAbs, _+ℤ_, _-ℤ_, _*ℤ_, +ℤ-idl, +ℤ-idr, +ℤ-assoc, +ℤ-comm, +ℤ-negℤ-cancel, *ℤ-zero, zero-*ℤ}
 use lib.Signed.{_≤ℤ_, ≤ℤ-refl}
@@ -21,6 +21,9 @@ pub sum-ext : (f g : ℕ → ℤ) (n : ℕ) → ((i : ℕ) → i < n → f i ≡
 unfolding sumTo
 sum-ext f g zero h = refl
 sum-ext f g (suc n) h = λ j. sum-ext f g n (λ i l. h i (le-step l)) j +ℤ h n (lt-suc-self n) j
+
+pub span-zero : (g : ℕ → ℤ) (n : ℕ) → span g 0 n ≡ sumTo g n
+span-zero g n = sum-ext (λ i. g (0 + i)) g n (λ i l. ap g (zero-add i))
 
 -- the first a terms, and n terms after them
 pub sum-split : (g : ℕ → ℤ) (a n : ℕ) → sumTo g (a + n) ≡ sumTo g a +ℤ span g a n
@@ -102,4 +105,4 @@ sum-range g a b = ap sumZ (map-tabulate g (b - a) (λ i. a + i)) ∙ sym (sum-li
 
 pub sum-upto : (g : ℕ → ℤ) (n : ℕ) → sumZ (map g (range 0 n)) ≡ sumTo g n
 sum-upto g n =
-    sum-range g 0 n ∙ ap (λ (m : ℕ). span g 0 m) (sub-zero n) ∙ sum-ext (λ i. g (0 + i)) g n (λ i l. ap g (zero-add i))
+    sum-range g 0 n ∙ ap (λ (m : ℕ). span g 0 m) (sub-zero n) ∙ span-zero g n
