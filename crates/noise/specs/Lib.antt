@@ -1,2 +1,4 @@
 pub mod Noise
+pub mod Shift
 pub mod Average
+pub mod Lines

@@ -1,1 +1,8 @@
-// Lines of noise, and sums of products of two lines.
+// Lines of noise and of luma averages, and sums of products of two lines.
+mod blocks;
+mod line;
+
+pub use blocks::dot;
+pub use blocks::dot_wide;
+pub use line::noise_line;
+pub use line::shifted_line;

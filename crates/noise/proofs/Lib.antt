@@ -1,0 +1,4 @@
+pub mod Fill
+pub mod Lines
+pub mod Shift
+pub mod BlockSums
