@@ -1,5 +1,5 @@
 pub mod Size
 pub mod Refusal
-pub mod Samples
+pub mod Low
 pub mod Facts
 pub mod Accepted
