@@ -14,7 +14,7 @@ use Rattle.frame.specs.declared.Shape.{Shape}
 use Rattle.frame.specs.Questions.{firstNo, sideLimit, small, depthKnown, each, low, allLow}
 use Rattle.frame.specs.Calls.{shapeQuestions}
 use Rattle.frame.proofs.Refusal.{passed}
-use Rattle.frame.proofs.Low.{low-below}
+use Rattle.frame.proofs.Samples.{low-below}
 
 -- ---- the questions
 

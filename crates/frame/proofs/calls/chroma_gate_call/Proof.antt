@@ -1,6 +1,6 @@
 -- `frame::calls::chroma_gate_call` meets its contract: the numbers first, and then the samples. Assumes nothing.
 use mathlib.Core.Path.{_≡_, refl}
-use mathlib.Core.List.{[], _∷_}
+use mathlib.Core.List.{[], _∷_, map}
 use lib.ListN.{length}
 use denote.Ref.{now}
 use Rattle.frame.specs.Questions.{samplesLow}
@@ -17,7 +17,9 @@ returns : tie.Need-returns
 unfolding chromaGateRefusal chromaQuestions shapeQuestions
 returns c =
     let a = c .before .before .before .before .before .before .args in
-    stopped (chromaQuestions (a .s) (length (now (a .a)) ∷ length (now (a .b)) ∷ length (now (a .c)) ∷ length (now (a .d)) ∷ [])) refl (c .before .chroma-gate-refusal .ensures) (samplesLow (a .s .depth) (now (a .a) ∷ now (a .b) ∷ now (a .c) ∷ now (a .d) ∷ []) ∷ []) (c .if1 .taken)
+    let planes = now (a .a) ∷ now (a .b) ∷ now (a .c) ∷ now (a .d) ∷ [] in
+    stopped (chromaQuestions (a .s) (map length planes)) refl (c .before .chroma-gate-refusal .ensures)
+    (samplesLow (a .s .depth) (planes) ∷ []) (c .if1 .taken)
 
 four-low-requires : tie.Need-four-low-requires
 four-low-requires c κs = search needs
@@ -29,7 +31,9 @@ returns-2 : tie.Need-returns-2
 unfolding chromaGateRefusal chromaQuestions shapeQuestions
 returns-2 c =
     let a = c .before .before .before .before .before .before .before .before .args in
-    asked (chromaQuestions (a .s) (length (now (a .a)) ∷ length (now (a .b)) ∷ length (now (a .c)) ∷ length (now (a .d)) ∷ [])) refl (c .before .before .before .chroma-gate-refusal .ensures) (samplesLow (a .s .depth) (now (a .a) ∷ now (a .b) ∷ now (a .c) ∷ now (a .d) ∷ [])) (c .ask .ensures) (c .before .four-low .ensures)
+    let planes = now (a .a) ∷ now (a .b) ∷ now (a .c) ∷ now (a .d) ∷ [] in
+    asked (chromaQuestions (a .s) (map length planes)) refl (c .before .before .before .chroma-gate-refusal .ensures)
+    (samplesLow (a .s .depth) (planes)) (c .ask .ensures) (c .before .four-low .ensures)
 
 pub chroma-gate-call-spec : {M : Type 1} → statement M
 chroma-gate-call-spec =

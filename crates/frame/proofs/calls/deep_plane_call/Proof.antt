@@ -1,6 +1,6 @@
 -- `frame::calls::deep_plane_call` meets its contract: the numbers first, and then the samples. Assumes nothing.
 use mathlib.Core.Path.{_≡_, refl}
-use mathlib.Core.List.{[], _∷_}
+use mathlib.Core.List.{[], _∷_, map}
 use lib.ListN.{length}
 use denote.Ref.{now}
 use Rattle.frame.specs.Questions.{samplesLow}
@@ -17,7 +17,9 @@ returns : tie.Need-returns
 unfolding deepPlaneRefusal deepPlaneQuestions
 returns c =
     let a = c .before .before .before .before .args in
-    stopped (deepPlaneQuestions (a .width) (a .height) (a .depth) (length (now (a .a)) ∷ length (now (a .b)) ∷ [])) refl (c .before .deep-plane-refusal .ensures) (samplesLow (a .depth) (now (a .a) ∷ now (a .b) ∷ []) ∷ []) (c .if1 .taken)
+    let planes = now (a .a) ∷ now (a .b) ∷ [] in
+    stopped (deepPlaneQuestions (a .width) (a .height) (a .depth) (map length planes)) refl (c .before .deep-plane-refusal .ensures)
+    (samplesLow (a .depth) (planes) ∷ []) (c .if1 .taken)
 
 both-low-requires : tie.Need-both-low-requires
 both-low-requires c κs = search needs
@@ -29,7 +31,9 @@ returns-2 : tie.Need-returns-2
 unfolding deepPlaneRefusal deepPlaneQuestions
 returns-2 c =
     let a = c .before .before .before .before .before .before .args in
-    asked (deepPlaneQuestions (a .width) (a .height) (a .depth) (length (now (a .a)) ∷ length (now (a .b)) ∷ [])) refl (c .before .before .before .deep-plane-refusal .ensures) (samplesLow (a .depth) (now (a .a) ∷ now (a .b) ∷ [])) (c .ask .ensures) (c .before .both-low .ensures)
+    let planes = now (a .a) ∷ now (a .b) ∷ [] in
+    asked (deepPlaneQuestions (a .width) (a .height) (a .depth) (map length planes)) refl (c .before .before .before .deep-plane-refusal .ensures)
+    (samplesLow (a .depth) (planes)) (c .ask .ensures) (c .before .both-low .ensures)
 
 pub deep-plane-call-spec : {M : Type 1} → statement M
 deep-plane-call-spec =

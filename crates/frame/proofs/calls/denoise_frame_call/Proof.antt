@@ -17,7 +17,11 @@ returns : tie.Need-returns
 unfolding denoiseFrameRefusal frameQuestions shapeQuestions
 returns c =
     let a = c .before .before .before .before .before .args in
-    stopped (frameQuestions (a .s) (length (now (a .y)) ∷ a .dy ∷ []) (length (now (a .cb)) ∷ length (now (a .cr)) ∷ a .dcb ∷ a .dcr ∷ [])) refl (c .before .frame-refusal .ensures) (samplesLow (a .s .depth) (now (a .y) ∷ now (a .cb) ∷ now (a .cr) ∷ []) ∷ []) (c .if1 .taken)
+    let luma = length (now (a .y)) ∷ a .dy ∷ [] in
+    let chroma = length (now (a .cb)) ∷ length (now (a .cr)) ∷ a .dcb ∷ a .dcr ∷ [] in
+    let source = now (a .y) ∷ now (a .cb) ∷ now (a .cr) ∷ [] in
+    stopped (frameQuestions (a .s) luma chroma) refl (c .before .frame-refusal .ensures)
+    (samplesLow (a .s .depth) (source) ∷ []) (c .if1 .taken)
 
 frame-low-requires : tie.Need-frame-low-requires
 frame-low-requires c κs = search needs
@@ -29,7 +33,11 @@ returns-2 : tie.Need-returns-2
 unfolding denoiseFrameRefusal frameQuestions shapeQuestions
 returns-2 c =
     let a = c .before .before .before .before .before .before .before .args in
-    asked (frameQuestions (a .s) (length (now (a .y)) ∷ a .dy ∷ []) (length (now (a .cb)) ∷ length (now (a .cr)) ∷ a .dcb ∷ a .dcr ∷ [])) refl (c .before .before .before .frame-refusal .ensures) (samplesLow (a .s .depth) (now (a .y) ∷ now (a .cb) ∷ now (a .cr) ∷ [])) (c .ask .ensures) (c .before .frame-low .ensures)
+    let luma = length (now (a .y)) ∷ a .dy ∷ [] in
+    let chroma = length (now (a .cb)) ∷ length (now (a .cr)) ∷ a .dcb ∷ a .dcr ∷ [] in
+    let source = now (a .y) ∷ now (a .cb) ∷ now (a .cr) ∷ [] in
+    asked (frameQuestions (a .s) luma chroma) refl (c .before .before .before .frame-refusal .ensures)
+    (samplesLow (a .s .depth) (source)) (c .ask .ensures) (c .before .frame-low .ensures)
 
 pub denoise-frame-call-spec : {M : Type 1} → statement M
 denoise-frame-call-spec =

@@ -5,7 +5,7 @@ use borrow.Author.Needs.{needs}
 use lib.Dec.{ltb}
 use lib.ListN.{length, take}
 use denote.Ref.{now}
-use Rattle.frame.proofs.Low.{Gathered, gathered-none, gathered-more, gathered-all, gathered-any, gathered-shifted}
+use Rattle.frame.proofs.Samples.{Gathered, gathered-none, gathered-more, gathered-all, gathered-any, gathered-shifted}
 use Rattle.frame.proofs.questions.samples_low.Statement.{statement}
 use Rattle.frame.proofs.questions.samples_low.Tie as tie
 use Rattle.frame.proofs.questions.samples_low.Reads as reads

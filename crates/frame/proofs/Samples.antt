@@ -31,10 +31,12 @@ below-low depth (x ∷ xs) h =
 pub low-exactly : (depth : ℕ) (xs : List ℕ) → (low depth xs ≡ true) ↔ ((i : ℕ) → i < length xs → getD xs i 0 < 2 ^ depth)
 low-exactly depth xs = (λ h i p. low-below depth xs h i, below-low depth xs)
 
-pub all-low-append : (depth : ℕ) (ps qs : List (List ℕ)) → allLow depth (ps ++ qs) ≡ (allLow depth ps && allLow depth qs)
+-- the answers for two lists of planes
+pub low-both : (depth : ℕ) (ps qs : List (List ℕ)) {r r′ : Bool} → r ≡ allLow depth ps → r′ ≡ allLow depth qs → (r && r′) ≡ allLow depth (ps ++ qs)
 unfolding allLow
-all-low-append depth [] qs = refl
-all-low-append depth (p ∷ ps) qs = rw (all-low-append depth ps qs) (sym (and-assoc (low depth p) (allLow depth ps) (allLow depth qs)))
+low-both depth [] qs e e′ = rw (e, e′)
+low-both depth (p ∷ ps) qs e e′ =
+    rw (e, and-assoc (low depth p) (allLow depth ps), low-both depth ps qs refl e′)
 
 -- ---- the or of all samples
 
