@@ -1,0 +1,6 @@
+mod Units
+mod Zero
+mod Unique
+mod Cut
+pub mod NearestWhole
+pub mod WholeRoot

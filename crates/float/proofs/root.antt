@@ -1,0 +1,5 @@
+mod Loop
+mod Pattern
+mod Normal
+mod Rounded
+mod Bits
