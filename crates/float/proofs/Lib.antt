@@ -4,3 +4,4 @@ mod Unique
 mod Cut
 pub mod NearestWhole
 pub mod WholeRoot
+pub mod NearestRoot

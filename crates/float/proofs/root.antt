@@ -1,5 +1,6 @@
-mod Loop
-mod Pattern
-mod Normal
-mod Rounded
-mod Bits
+pub mod Loop
+pub mod Pattern
+pub mod Normal
+pub mod Split
+pub mod Rounded
+pub mod Bits

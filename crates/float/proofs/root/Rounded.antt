@@ -1,6 +1,6 @@
--- The root of N = n × 4 ^ s, rounded, for an n of 53 or 54 digits, from the root q of n × 2 ^ 52, which has 53, and the rest.
--- * N is 4 × n × 2 ^ 52 × w² for w = 2 ^ (s − 27), and 2w are the units of the root's last digit. So the root is between q and q + 1 of these, and the middle is (2q + 1) × w.
--- * The rest is above q exactly if the root is above the middle, which it never meets: then it rounds to q + 1, else to q (`stays`, `rises`).
+-- The rounded root of a number that is split: the root lies between q and q + 1 last digits, and the middle is (2q + 1) × w.
+-- * Half of `twiceRoot` has 53 digits before the k that are dropped (`half-size`), so `round` takes it to the nearest number of last digits (`rounded`).
+-- * The rest is above q exactly if the root is above the middle, which it never meets: then that number is q + 1, else q (`stays`, `rises`).
 -- Assumes nothing.
 use mathlib.Core.Path.{_≡_, refl, sym, ap, _∙_, subst}
 use mathlib.Core.Logic.{_⊎_, inl, inr}
@@ -16,7 +16,8 @@ use lib.Ieee.Digits.{size-lt, size-le}
 use lib.Ieee.Fits.{round-is}
 use lib.Ieee.Nearest.{closest, closest-same}
 use Rattle.float.specs.Root.{wholeRoot, twiceRoot, rootOf}
-use Rattle.float.proofs.WholeRoot.{root-low, root-high, square-le, square-lt, square-suc, twice-lt, twice-le, twice-ge, twice-gt}
+use Rattle.float.proofs.WholeRoot.{twice-lt, twice-ge, twice-gt}
+use Rattle.float.proofs.root.Split.{Split, from-q, to-next, under-middle, over-middle}
 
 -- ---- `closest` off the middle
 below-half : (q x y : ℕ) → x < y → nearest q (compare x y) ≡ q
@@ -55,131 +56,48 @@ size-is n p l h =
     let under : size n ≤ p + 1 = size-le n (p + 1) h in
     omega arith
 
-odd-square : (q : ℕ) → (2 * q + 1) * (2 * q + 1) ≡ 4 * (q * q) + 4 * q + 1
-odd-square q = ap (λ (x : ℕ). x * x) (native.Mathlib.Numerals.add-one (2 * q)) ∙ square-suc (2 * q) ∙ omega (arith, mul-mul-mul-comm 2 q 2 q)
-
--- the root of n × 2 ^ 52, and the rest
-abbrev pub digits : ℕ → ℕ
-digits n = wholeRoot (n * 2 ^ 52)
-
-abbrev pub rest : ℕ → ℕ
-rest n = n * 2 ^ 52 - digits n * digits n
-
 -- the root of N is rounded to c × 2 ^ k units, c of 53 digits
 pub record Rooted (N c k : ℕ) : Type 0 where
   pub is : rootOf N ≡ units binary64 false c k
   pub lo : 2 ^ 52 ≤ c
   pub hi : c < 2 ^ 53
 
-module _ (n s : ℕ) (n-lo : 2 ^ 52 ≤ n) (n-hi : n < 2 ^ 54 - 1) (s-lo : 27 ≤ s) where
-  P : ℕ
-  P = n * 2 ^ 52
-
-  q : ℕ
-  q = wholeRoot P
-
+module _ (N k q rest : ℕ) (s : Split N k q rest) where
   w : ℕ
-  w = 2 ^ (s - 27)
+  w = s .w
 
-  N : ℕ
-  N = n * (2 ^ s * 2 ^ s)
-
-  -- ---- the digits of q
-  q-low : q * q ≤ P
-  unfolding q
-  q-low = root-low P
-
-  q-high : P < q * q + 2 * q + 1
-  unfolding q
-  q-high = lt-of-lt-of-le (root-high P) (le-of-eq (square-suc (wholeRoot P)))
-
-  q-lo : 2 ^ 52 ≤ q
-  unfolding P q
-  q-lo = square-le (2 ^ 52) (wholeRoot P) (lt-of-le-of-lt (mul-le-mul-right (2 ^ 52) n-lo) (root-high P))
-
-  q-hi : q < 2 ^ 53
-  unfolding P q
-  q-hi = square-lt q (2 ^ 53) (omega (arith, q-low))
-
-  -- n is not the largest number of 54 digits, so q + 1 has 53 digits too where the root rounds up
-  no-carry : q < P - q * q → suc q < 2 ^ 53
-  unfolding P
-  no-carry h = lt-of-not-le (λ (g : 2 ^ 53 ≤ suc q). clash q (last q q-hi g) h)
-    where
-      last : (q : ℕ) → q < 2 ^ 53 → 2 ^ 53 ≤ suc q → q ≡ 2 ^ 53 - 1
-      last q l g = omega arith
-
-      clash : (q : ℕ) → q ≡ 2 ^ 53 - 1 → q < n * 2 ^ 52 - q * q → ⊥
-      clash q g h = let a : q * q ≡ (2 ^ 53 - 1) * (2 ^ 53 - 1) = ap (λ (x : ℕ). x * x) g in omega arith
-
-  -- ---- N against squares of multiples of w
-  w-pos : 0 < w * w
+  p-is : 2 ^ k ≡ 2 * w
   unfolding w
-  w-pos = mul-pos (pow-pos (s - 27)) (pow-pos (s - 27))
+  p-is = s .weight
 
-  N-is : N ≡ 4 * P * (w * w)
-  unfolding N P w
-  N-is =
-      ap (λ (x : ℕ). n * (x * x)) (ap (λ (x : ℕ). 2 ^ x) (sym (add-sub-of-le s-lo)) ∙ pow-add 2 27 (s - 27))
-      ∙ ap (λ (x : ℕ). n * x) (mul-mul-mul-comm (2 ^ 27) w (2 ^ 27) w)
-      ∙ sym (mul-assoc n (2 ^ 54) (w * w))
-      ∙ ap (λ (x : ℕ). x * (w * w)) (four n)
-    where
-      four : (n : ℕ) → n * 2 ^ 54 ≡ 4 * (n * 2 ^ 52)
-      four n = omega arith
-
-  -- ---- the root, twice, against multiples of w
+  -- ---- twice the root, against q, the middle and q + 1, twice each
   r : ℕ
   r = twiceRoot N
 
-  square : (b : ℕ) → b * w * (b * w) ≡ b * b * (w * w)
-  square b = mul-mul-mul-comm b w b w
-
-  at-least : (b : ℕ) → b * b ≤ 4 * P → 2 * (b * w) ≤ r
-  unfolding r
-  at-least b h = twice-ge N (b * w) (le-trans (le-of-eq (square b)) (le-trans (mul-le-mul-right (w * w) h) (le-of-eq (sym N-is))))
-
-  above : (b : ℕ) → b * b < 4 * P → 2 * (b * w) < r
-  unfolding r
-  above b h = twice-gt N (b * w) (lt-of-le-of-lt (le-of-eq (square b)) (lt-of-lt-of-le (mul-lt-mul-of-pos-right h w-pos) (le-of-eq (sym N-is))))
-
-  below : (b : ℕ) → 4 * P < b * b → r < 2 * (b * w)
-  unfolding r
-  below b h = twice-lt N (b * w) (lt-of-le-of-lt (le-of-eq N-is) (lt-of-lt-of-le (mul-lt-mul-of-pos-right h w-pos) (le-of-eq (sym (square b)))))
-
-  -- q, the middle and q + 1
   two-q : 2 * q * w ≡ 2 * (q * w)
   two-q = mul-assoc 2 q w
 
   middle : (2 * q + 1) * w ≡ 2 * (q * w) + w
   middle = add-mul (2 * q) 1 w ∙ rw (two-q, one-mul w)
 
-  next : (2 * suc q) * w ≡ 2 * (q * w) + 2 * w
+  next : 2 * suc q * w ≡ 2 * (q * w) + 2 * w
   next = mul-assoc 2 (suc q) w ∙ omega (arith, suc-mul q w)
 
-  from-q : 4 * (q * w) ≤ r
-  from-q = omega (arith, at-least (2 * q) (omega (arith, mul-mul-mul-comm 2 q 2 q, q-low)), two-q)
+  at-least : 4 * (q * w) ≤ r
+  unfolding w r
+  at-least = omega (arith, twice-ge N (2 * q * w) (from-q N k q rest s), two-q)
 
-  to-next : r < 4 * (q * w) + 4 * w
-  to-next = omega (arith, below (2 * suc q) (omega (arith, mul-mul-mul-comm 2 (suc q) 2 (suc q), square-suc q, q-high)), next)
+  at-most : r < 4 * (q * w) + 4 * w
+  unfolding w r
+  at-most = omega (arith, twice-lt N (2 * suc q * w) (to-next N k q rest s), next)
 
   -- ---- the rounded root
-  k : ℕ
-  k = s - 26
-
-  p-is : 2 ^ k ≡ 2 * w
-  unfolding k w
-  p-is = ap (λ (x : ℕ). 2 ^ x) (more s s-lo) ∙ pow-add 2 1 (s - 27)
-    where
-      more : (s : ℕ) → 27 ≤ s → s - 26 ≡ 1 + (s - 27)
-      more s l = omega arith
-
   -- half of r has 53 digits before k others
   half-size : size (r / 2) ≡ 52 + k + 1
   half-size =
       size-is (r / 2) (52 + k)
-      (le-trans (le-of-eq (pow-add 2 52 k)) (le-trans (mul-le-mul-right (2 ^ k) q-lo) (lower r (q * 2 ^ k) (omega (arith, from-q, in-w)))))
-      (lt-of-lt-of-le (upper r (suc q * 2 ^ k) (omega (arith, to-next, in-w, p-is, suc-mul q (2 ^ k)))) (le-trans (mul-le-mul-right (2 ^ k) q-hi) (le-of-eq (sym (pow-add 2 53 k) ∙ ap (λ (x : ℕ). 2 ^ x) (one-more k)))))
+      (le-trans (le-of-eq (pow-add 2 52 k)) (le-trans (mul-le-mul-right (2 ^ k) (s .q-lo)) (lower r (q * 2 ^ k) (omega (arith, at-least, in-w)))))
+      (lt-of-lt-of-le (upper r (suc q * 2 ^ k) (omega (arith, at-most, in-w, p-is, suc-mul q (2 ^ k)))) (le-trans (mul-le-mul-right (2 ^ k) (s .q-hi)) (le-of-eq (sym (pow-add 2 53 k) ∙ ap (λ (x : ℕ). 2 ^ x) (one-more k)))))
     where
       in-w : q * 2 ^ k ≡ 2 * (q * w)
       in-w = ap (λ (x : ℕ). q * x) p-is ∙ mul-left-comm q 2 w
@@ -214,22 +132,22 @@ module _ (n s : ℕ) (n-lo : 2 ^ 52 ≤ n) (n-hi : n < 2 ^ 54 - 1) (s-lo : 27 �
   four-q : q * (4 * w) ≡ 4 * (q * w)
   four-q = mul-left-comm q 4 w
 
-  pub stays : rest n ≤ digits n → Rooted (n * (2 ^ s * 2 ^ s)) (digits n) (s - 26)
-  unfolding P q N k
+  pub stays : rest ≤ q → Rooted N q k
+  unfolding w r
   stays h =
-      let l : r < 2 * ((2 * q + 1) * w) = below (2 * q + 1) (omega (arith, odd-square q, q-low)) in
+      let l : r < 2 * ((2 * q + 1) * w) = twice-lt N ((2 * q + 1) * w) (under-middle N k q rest s h) in
       record {
-        is = rounded ∙ ap (λ (x : ℕ). units binary64 false x k) (closest-down r (4 * w) q (omega (arith, four-q, from-q)) (omega (arith, four-q, to-next)) (omega (arith, four-q, middle)));
-        lo = q-lo;
-        hi = q-hi;
+        is = rounded ∙ ap (λ (x : ℕ). units binary64 false x k) (closest-down r (4 * w) q (omega (arith, four-q, at-least)) (omega (arith, four-q, at-most)) (omega (arith, four-q, middle)));
+        lo = s .q-lo;
+        hi = s .q-hi;
       }
 
-  pub rises : digits n < rest n → Rooted (n * (2 ^ s * 2 ^ s)) (suc (digits n)) (s - 26)
-  unfolding P q N k
+  pub rises : q < rest → Rooted N (suc q) k
+  unfolding w r
   rises h =
-      let l : 2 * ((2 * q + 1) * w) < r = above (2 * q + 1) (omega (arith, odd-square q, q-low)) in
+      let l : 2 * ((2 * q + 1) * w) < r = twice-gt N ((2 * q + 1) * w) (over-middle N k q rest s h) in
       record {
-        is = rounded ∙ ap (λ (x : ℕ). units binary64 false x k) (closest-up r (4 * w) q (omega (arith, four-q, from-q)) (omega (arith, four-q, to-next)) (omega (arith, four-q, middle)));
-        lo = omega (arith, q-lo);
-        hi = no-carry h;
+        is = rounded ∙ ap (λ (x : ℕ). units binary64 false x k) (closest-up r (4 * w) q (omega (arith, four-q, at-least)) (omega (arith, four-q, at-most)) (omega (arith, four-q, middle)));
+        lo = omega (arith, s .q-lo);
+        hi = s .no-carry h;
       }

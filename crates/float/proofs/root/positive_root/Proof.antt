@@ -1,7 +1,6 @@
 -- `float::root::positive_root` meets its contract: x is n × 4 ^ s / 2 ^ 2148 by the first two calls, and the digits and the rest of the third say how its root rounds. Assumes nothing.
 use mathlib.Core.Path.{_≡_, sym, ap, subst, _∙_}
 use Prim.Native.Nat.{ℕ, _+_, _-_, _*_, _^_, _≤_, _<_}
-use native.Mathlib.Nat.{le-trans, le-of-eq, lt-of-le-of-lt, lt-of-lt-of-le}
 use native.Mathlib.Numerals.{add-one}
 use native.Mathlib.Omega.{arith}
 use mathlib.Core.Bool.{false}
@@ -9,21 +8,11 @@ use lib.Ieee.Exact.{HasValue}
 use borrow.Author.Needs.{needs}
 use Rattle.float.specs.Root.{root, rootOf}
 use Rattle.float.proofs.root.Normal.{root-of-value}
-use Rattle.float.proofs.root.Rounded.{digits, rest, Rooted, stays, rises}
+use Rattle.float.proofs.root.Split.{Split, split}
+use Rattle.float.proofs.root.Rounded.{Rooted, stays, rises}
 use Rattle.float.proofs.root.Bits.{from-bits, no-nan-bits}
 use Rattle.float.proofs.root.positive_root.Statement.{statement}
 use Rattle.float.proofs.root.positive_root.Tie as tie
-
--- ---- from the digits q and the rest r
-module _ (n s q r : ℕ) (lo : 2 ^ 52 ≤ n) (hi : n < 2 ^ 54 - 1) (l : 27 ≤ s) (e : q ≡ digits n) (d : r ≡ n * 2 ^ 52 - q * q) where
-  rest-is : r ≡ rest n
-  rest-is = d ∙ ap (λ (x : ℕ). n * 2 ^ 52 - x * x) e
-
-  rounds-up : q < r → Rooted (n * (2 ^ s * 2 ^ s)) (q + 1) (s - 26)
-  rounds-up h = rw (add-one q, e) (rises n s lo hi l (lt-of-lt-of-le (lt-of-le-of-lt (le-of-eq (sym e)) h) (le-of-eq rest-is)))
-
-  rounds-down : r ≤ q → Rooted (n * (2 ^ s * 2 ^ s)) q (s - 26)
-  rounds-down h = rw e (stays n s lo hi l (le-trans (le-of-eq (sym rest-is)) (le-trans h (le-of-eq e))))
 
 -- ---- after the calls
 abbrev n-of : tie.After-root-digits → ℕ
@@ -43,15 +32,16 @@ root-is c =
 abbrev q-of : tie.After-root-digits → ℕ
 q-of c = c .root-digits .result .root
 
-up : (c : tie.After-root-digits) → q-of c < c .root-digits .result .rest → Rooted (N-of c) (q-of c + 1) (s-of c - 26)
-up c h =
+parts : (c : tie.After-root-digits) → Split (N-of c) (s-of c - 26) (q-of c) (c .root-digits .result .rest)
+parts c =
     let e = c .before .even .ensures in
-    rounds-up (n-of c) (s-of c) (q-of c) (c .root-digits .result .rest) (e .1) (e .2) (omega (arith, e .3)) (c .root-digits .ensures .0) (c .root-digits .ensures .1) h
+    split (n-of c) (s-of c) (q-of c) (c .root-digits .result .rest) (e .1) (e .2) (omega (arith, e .3)) (c .root-digits .ensures .0) (c .root-digits .ensures .1)
+
+up : (c : tie.After-root-digits) → q-of c < c .root-digits .result .rest → Rooted (N-of c) (q-of c + 1) (s-of c - 26)
+up c h = subst (λ (q : ℕ). Rooted (N-of c) q (s-of c - 26)) (sym (add-one (q-of c))) (rises _ _ _ _ (parts c) h)
 
 down : (c : tie.After-root-digits) → c .root-digits .result .rest ≤ q-of c → Rooted (N-of c) (q-of c) (s-of c - 26)
-down c h =
-    let e = c .before .even .ensures in
-    rounds-down (n-of c) (s-of c) (q-of c) (c .root-digits .result .rest) (e .1) (e .2) (omega (arith, e .3)) (c .root-digits .ensures .0) (c .root-digits .ensures .1) h
+down c h = stays _ _ _ _ (parts c) h
 
 small : (c : tie.After-root-digits) → s-of c - 26 ≤ 2000
 small c = omega (arith, c .before .even .ensures .4)
