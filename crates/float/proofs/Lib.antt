@@ -1,0 +1,7 @@
+mod Units
+mod Zero
+mod Unique
+mod Cut
+pub mod NearestWhole
+pub mod WholeRoot
+pub mod NearestRoot
