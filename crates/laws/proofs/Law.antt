@@ -15,7 +15,7 @@ use Rattle.laws.specs.Sets.{In, NoDup, Same, Apart}
 use Rattle.laws.specs.FloatSums.{sumF}
 use Rattle.laws.specs.Law.{Limit, Held, Product, Positions, ExactSums}
 use Rattle.laws.proofs.Whole.{abs-add}
-use Rattle.laws.proofs.Sums.{list-append}
+use Rattle.laws.proofs.Sums.{sum-append}
 use Rattle.laws.proofs.Scaled.{scaled-zero, holds-scaled, add-scaled}
 use Rattle.laws.proofs.Sets.{length-within, sum-same-set, in-append, nodup-append}
 
@@ -70,7 +70,7 @@ module _ (L : Limit) (H : Held L) {A : Type 0} (all : List A) (f : A → Float) 
       ∙ ap (ofScaled (L .scale))
       (sum-same-set g us (ps ++ qs) n (nodup-append ps qs (S .once) (T .once) d) e
       ∙ ap sumZ (map-append g ps qs)
-      ∙ list-append (map g ps) (map g qs))
+      ∙ sum-append (map g ps) (map g qs))
       ∙ sym (add-scaled (L .scale) (sumZ (map g ps)) (sumZ (map g qs)) (ofScaled (L .scale) (sumZ (map g qs))) (all-small ps S) (H .fine) (value qs T))
       ∙ (λ i. add binary64 (sym (exact ps S) i) (sym (exact qs T) i))
 

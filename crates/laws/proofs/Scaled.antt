@@ -1,4 +1,5 @@
--- The laws of `ofScaled`: it is exact up to 2 ^ 53, and of such numbers so are sums, differences, products, squares and quotients by 2 ^ j. Each is the rounding of the exact result, by the signs. Assumes nothing.
+-- The laws of `ofScaled`: it is exact up to 2 ^ 53, and sums, differences, products, squares and quotients by 2 ^ j of such numbers are such numbers.
+-- Each operation is the rounding of the exact result, and the signs decide the rest. Assumes nothing.
 use mathlib.Core.Path.{_≡_, refl, sym, ap, _∙_, subst}
 use mathlib.Core.Bool.{Bool, true, false, not, cond, _&&_}
 use Prim.Native.Nat.{ℕ, zero, suc, _+_, _-_, _*_, _^_, _≤_, _<_}
@@ -173,7 +174,7 @@ square-scaled k a x v =
     alike true = refl
     alike false = refl
 
--- ---- the quotient by 2 ^ j, exact at any size
+-- ---- the quotient by 2 ^ j
 plain : (s : Bool) → unlike s false ≡ s
 plain true = refl
 plain false = refl

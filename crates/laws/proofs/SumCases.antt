@@ -8,4 +8,4 @@ use Rattle.laws.specs.SumCases.{sumCases}
 
 pub sum-cases-right : Right sumF sumCases
 unfolding sumF add round ofBits ofScaled
-sum-cases-right = (refl, (refl, (refl, (refl, (refl, tt)))))
+sum-cases-right = (refl, (refl, (refl, (refl, tt))))

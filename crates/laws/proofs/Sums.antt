@@ -90,15 +90,15 @@ sum-rows g w (suc h) =
     ∙ ap (λ (m : ℕ). sumTo g m) (sym (suc-mul h w))
 
 -- ---- the sum of a list
-pub list-append : (xs ys : List ℤ) → sumZ (xs ++ ys) ≡ sumZ xs +ℤ sumZ ys
+pub sum-append : (xs ys : List ℤ) → sumZ (xs ++ ys) ≡ sumZ xs +ℤ sumZ ys
 unfolding sumZ
-list-append [] ys = sym (+ℤ-idl (sumZ ys))
-list-append (x ∷ xs) ys = ap (λ (z : ℤ). x +ℤ z) (list-append xs ys) ∙ sym (+ℤ-assoc x (sumZ xs) (sumZ ys))
+sum-append [] ys = sym (+ℤ-idl (sumZ ys))
+sum-append (x ∷ xs) ys = ap (λ (z : ℤ). x +ℤ z) (sum-append xs ys) ∙ sym (+ℤ-assoc x (sumZ xs) (sumZ ys))
 
 pub sum-list : (g : ℕ → ℤ) (n : ℕ) → sumTo g n ≡ sumZ (tabulate n g)
 unfolding sumTo sumZ
 sum-list g zero = refl
-sum-list g (suc n) = (λ i. sum-list g n i +ℤ sym (+ℤ-idr (g n)) i) ∙ sym (list-append (tabulate n g) (g n ∷ []))
+sum-list g (suc n) = (λ i. sum-list g n i +ℤ sym (+ℤ-idr (g n)) i) ∙ sym (sum-append (tabulate n g) (g n ∷ []))
 
 pub sum-range : (g : ℕ → ℤ) (a b : ℕ) → sumZ (map g (range a b)) ≡ span g a (b - a)
 sum-range g a b = ap sumZ (map-tabulate g (b - a) (λ i. a + i)) ∙ sym (sum-list (λ i. g (a + i)) (b - a))

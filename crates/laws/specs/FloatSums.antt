@@ -1,4 +1,4 @@
--- The sum in f64 as a program takes it: from the left, from plus zero, rounded at each step.
+-- "The f64 sum" as the Rust takes it: from plus zero, one term after another, rounded at each.
 use mathlib.Core.List.{List}
 use lib.Ieee.{Float, binary64, add}
 use Rattle.laws.specs.Loop.{visit}

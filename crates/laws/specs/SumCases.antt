@@ -1,5 +1,5 @@
 -- "The f64 sum is plus zero where the exact sum is 0, so also over no positions." And past 2 ^ 53 the order counts: the law of sums needs its limit.
-use mathlib.Core.Bool.{true, false}
+use mathlib.Core.Bool.{false}
 use mathlib.Core.List.{List, [], _∷_}
 use Prim.Native.Nat.{_^_}
 use lib.IntN.{pos, negsuc}
@@ -10,8 +10,7 @@ use Rattle.laws.specs.Scaled.{plusZero, ofScaled}
 abbrev pub sumCases : List (Case (List Float) Float)
 sumCases =
     record { input = []; stated = plusZero }
-    ∷ record { input = fin true 0 (pos 0) ∷ []; stated = plusZero }
     ∷ record { input = ofScaled 4 (pos 3) ∷ ofScaled 4 (negsuc 2) ∷ []; stated = plusZero }
-    ∷ record { input = ofScaled 0 (pos (2 ^ 53)) ∷ ofScaled 0 (pos 1) ∷ ofScaled 0 (pos 1) ∷ []; stated = fin false 1 (pos 53) }
-    ∷ record { input = ofScaled 0 (pos 1) ∷ ofScaled 0 (pos 1) ∷ ofScaled 0 (pos (2 ^ 53)) ∷ []; stated = fin false 4503599627370497 (pos 1) }
+    ∷ record { input = ofScaled 0 (pos (2 ^ 53)) ∷ ofScaled 0 (pos 9) ∷ ofScaled 0 (pos 5) ∷ []; stated = fin false 2251799813685251 (pos 2) }
+    ∷ record { input = ofScaled 0 (pos 9) ∷ ofScaled 0 (pos 5) ∷ ofScaled 0 (pos (2 ^ 53)) ∷ []; stated = fin false 4503599627370503 (pos 1) }
     ∷ []
