@@ -62,6 +62,11 @@ pub record Frame (s : Shape) (luma blue red : List ℕ) : Type 0 where
   pub cb : Plane (chromaSamples s) (s .depth) blue
   pub cr : Plane (chromaSamples s) (s .depth) red
 
+is-frame : (s : Shape) (y cb cr : List ℕ) → s .depth ≤ 12
+    → length y ≡ lumaSamples s → length cb ≡ chromaSamples s → length cr ≡ chromaSamples s → Lows (s .depth) (y ∷ cb ∷ cr ∷ []) → Frame s y cb cr
+is-frame s y cb cr d m b r f =
+    record { y = is-plane _ _ y d m (f .0); cb = is-plane _ _ cb d b (f .1 .0); cr = is-plane _ _ cr d r (f .1 .1 .0) }
+
 -- the shape and the lengths
 frame-numbers : (s : Shape) (luma chroma : List ℕ) → firstNo (frameQuestions s luma chroma) ≡ 0
     → Known s × Each (lumaSamples s) luma × Each (chromaSamples s) chroma
@@ -87,18 +92,8 @@ frame-call s y cb cr y′ cb′ cr′ e =
     let d = k .0 .depth .most in
     record {
       shape = k .0;
-      source =
-          record {
-            y = is-plane _ _ y d (k .1 .0) (f .1 .0);
-            cb = is-plane _ _ cb d (k .2 .0) (f .1 .1 .0);
-            cr = is-plane _ _ cr d (k .2 .1 .0) (f .1 .1 .1 .0);
-          };
-      copy =
-          record {
-            y = is-plane _ _ y′ d (k .1 .1 .0) (f .1 .1 .1 .1 .0);
-            cb = is-plane _ _ cb′ d (k .2 .1 .1 .0) (f .1 .1 .1 .1 .1 .0);
-            cr = is-plane _ _ cr′ d (k .2 .1 .1 .1 .0) (f .1 .1 .1 .1 .1 .1 .0);
-          };
+      source = is-frame s y cb cr d (k .1 .0) (k .2 .0) (k .2 .1 .0) (f .1 .0, (f .1 .1 .0, (f .1 .1 .1 .0, tt)));
+      copy = is-frame s y′ cb′ cr′ d (k .1 .1 .0) (k .2 .1 .1 .0) (k .2 .1 .1 .1 .0) (f .1 .1 .1 .1);
     }
 
 pub record FitCall (s : Shape) (y cb cr y′ cb′ cr′ : List ℕ) (lag : ℕ) : Type 0 where
@@ -132,12 +127,7 @@ denoise-frame-call s y cb cr dy dcb dcr e =
     let d = k .0 .depth .most in
     record {
       shape = k .0;
-      source =
-          record {
-            y = is-plane _ _ y d (k .1 .0) (f .1 .0);
-            cb = is-plane _ _ cb d (k .2 .0) (f .1 .1 .0);
-            cr = is-plane _ _ cr d (k .2 .1 .0) (f .1 .1 .1 .0);
-          };
+      source = is-frame s y cb cr d (k .1 .0) (k .2 .0) (k .2 .1 .0) (f .1);
       to-y = k .1 .1 .0;
       to-cb = k .2 .1 .1 .0;
       to-cr = k .2 .1 .1 .1 .0;

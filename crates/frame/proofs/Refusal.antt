@@ -1,5 +1,5 @@
--- Laws of the first question that fails: one list of questions after another, a question more, and what an answer of 0 tells. By cases on the answers. Assumes nothing.
-use mathlib.Core.Path.{_≡_, refl, sym, _∙_, ap}
+-- Laws of the first question that fails: a refused and an accepted call, questions asked after others, and an answer of 0. By cases on the answers. Assumes nothing.
+use mathlib.Core.Path.{_≡_, refl, sym, _∙_}
 use mathlib.Core.Bool.{Bool, true, false, cond, _&&_, false≢true}
 use mathlib.Core.List.{List, [], _∷_, _++_}
 use Prim.Native.Nat.{ℕ, zero, suc}
@@ -37,15 +37,16 @@ module _ (qs : List Question) (h : numbered qs ≡ true) {n : ℕ} (e : n ≡ fi
   pub asked : (q : Question) {r : Bool} {m : ℕ} → m ≡ accepted n (cond r 0 (q .1)) n → r ≡ q .0 → m ≡ firstNo (qs ++ (q ∷ []))
   asked q f p = f ∙ rw (p, e) (sym (first-no-append qs (q ∷ []) h))
 
+-- two answers together
 pub and-is : {r b r′ b′ : Bool} → r ≡ b → r′ ≡ b′ → (r && r′) ≡ (b && b′)
 and-is e e′ = rw (e, e′)
-
--- ---- an answer of 0
 
 -- all answers are yes
 abbrev pub Passed : List Question → Type 0
 Passed [] = Unit {0}
 Passed ((b, n) ∷ qs) = (b ≡ true) × Passed qs
+
+-- ---- an answer of 0
 
 pub passed : (qs : List Question) → numbered qs ≡ true → firstNo qs ≡ 0 → Passed qs
 passed [] h e = tt

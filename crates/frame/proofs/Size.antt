@@ -1,6 +1,6 @@
 -- Chroma size is the specification's, and no larger than luma's; the samples of a plane whose sides are at most a limit. By cases on the format. Assumes nothing.
 use mathlib.Core.Path.{_≡_, refl}
-use Prim.Native.Nat.{ℕ, _*_, _≤_, _<_, _^_, _+_}
+use Prim.Native.Nat.{ℕ, _*_, _≤_}
 use native.Mathlib.Nat.{mul-le-mul, lt-of-le-of-lt}
 use native.Mathlib.Omega.{arith}
 use lib.Dec.{eqb, leb, lit<}
@@ -9,7 +9,8 @@ use mir.Syntax.{w64}
 use mir.Val.{Fits}
 use Rattle.frame.specs.Size.{chromaWidth, chromaHeight}
 use Rattle.frame.specs.Text.{Format, monochrome, yuv420, yuv422, yuv444, subX, subY, columns, rows, number}
-use Rattle.frame.specs.Questions.{sideLimit}
+use Rattle.frame.specs.Questions.{sideLimit, lumaSamples, chromaSamples}
+use Rattle.frame.specs.declared.Shape.{Shape}
 
 -- ---- the text
 
@@ -45,6 +46,9 @@ chroma-width-le f w = cond-le (eqb f 0) (omega arith) (cond-le (leb f 2) (omega 
 pub chroma-height-le : (f h : ℕ) → chromaHeight f h ≤ h
 unfolding chromaHeight
 chroma-height-le f h = cond-le (eqb f 0) (omega arith) (cond-le (eqb f 1) (omega arith) (omega arith))
+
+pub chroma-samples-le : (s : Shape) → chromaSamples s ≤ lumaSamples s
+chroma-samples-le s = mul-le-mul (chroma-width-le (s .format) (s .width)) (chroma-height-le (s .format) (s .height))
 
 -- a plane whose sides are at most a limit
 pub area-le : (l : ℕ) {w h : ℕ} → w ≤ l → h ≤ l → w * h ≤ l * l

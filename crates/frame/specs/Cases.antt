@@ -1,4 +1,4 @@
--- Refusals worked by hand: at the size limit and past it, empty planes, an unknown depth and format, a length off by one, the largest sample and the next; and of two faults the first in document 01's order.
+-- "Sizes 4,096 and 4,097; sample 255 and 256 at 8 bits; register bits 16 and 17." Refusals worked by hand: also empty planes, an unknown depth and format, a length off by one; and of two faults the first in document 01's order.
 use mathlib.Core.List.{List, [], _∷_, _++_}
 use Prim.Native.Nat.{ℕ, _-_}
 use lib.ListN.{replicate}
@@ -137,7 +137,7 @@ chromaGateCases =
     row (shape 3 3 8 1, (flat 9, flat 9, flat 9, flat 9)) 5 ∷
     row (shape 3 3 8 1, (flat 4, flat 4, high 4, flat 4)) 6 ∷ []
 
--- ---- "Order 0 and 26: 8"; "register bits 16 and 17"
+-- ---- "Order 0 and 26: 8."; the register's bits
 
 abbrev pub order : ℕ → ℕ
 order n = firstNo (orderKnown n ∷ [])

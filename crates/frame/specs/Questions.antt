@@ -35,7 +35,7 @@ allLow depth (p ∷ ps) = low depth p && allLow depth ps
 
 -- ---- the questions
 
--- the limit of a width and of a height
+-- the largest width and the largest height
 abbrev pub sideLimit : ℕ
 sideLimit = 4096
 
@@ -43,7 +43,7 @@ sideLimit = 4096
 abbrev pub small : ℕ → ℕ → Question
 small w h = (leb w sideLimit && leb h sideLimit, 1)
 
--- In a frame call, are both at least 1? No: 2.
+-- In a frame call (profile, fit, chroma correlation, gate, frame denoise), are both at least 1? No: 2.
 abbrev pub present : ℕ → ℕ → Question
 present w h = (leb 1 w && leb 1 h, 2)
 
@@ -55,7 +55,7 @@ depthKnown depth = (eqb depth 8 || (eqb depth 10 || eqb depth 12), 3)
 abbrev pub formatKnown : ℕ → Question
 formatKnown format = (leb format 3, 4)
 
--- Has every lent plane, destinations included, exactly its number of samples? No: 5. The lengths of the planes of a lone size; and of the luma and the chroma planes of a frame.
+-- Has every lent plane, destinations included, exactly its number of samples? No: 5. Of planes of one size; and of the luma and the chroma planes of a frame. A plane stands by its length.
 abbrev pub filled : ℕ → ℕ → List ℕ → Question
 filled w h planes = (each (w * h) planes, 5)
 

@@ -16,7 +16,7 @@ subY yuv420 = 1
 subY yuv422 = 0
 subY yuv444 = 0
 
--- x samples of luma, across or down, where the format has them halved (1) or not (0)
+-- (x + sub) >> sub
 abbrev pub sampled : ℕ → ℕ → ℕ
 sampled sub x = (x + sub) / 2 ^ sub
 

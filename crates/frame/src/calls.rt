@@ -4,7 +4,6 @@ use crate::questions;
 use crate::questions::ask;
 use crate::refusals;
 ghost use mathlib.Core.Path.{_≡_};
-ghost use lib.ListN.{length};
 ghost use Rattle.frame.specs.Calls.{deepPlaneRefusal, frameRefusal, fitRefusal, lumaGateRefusal, chromaGateRefusal, denoiseFrameRefusal};
 
 // Questions 1, 3, 5 and 6, of a lone plane and its denoised copy.

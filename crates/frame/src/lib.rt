@@ -1,5 +1,5 @@
 // The shape of a frame, and the questions put to a call.
-pub mod questions; // each question, a yes or no
+mod questions; // each question, a yes or no
 mod refusals; // the questions about numbers alone
 mod calls; // all questions of a call
 
@@ -9,6 +9,7 @@ pub use calls::denoise_frame_call;
 pub use calls::fit_call;
 pub use calls::frame_call;
 pub use calls::luma_gate_call;
+pub use questions::samples_low;
 pub use refusals::chroma_gate_refusal;
 pub use refusals::deep_plane_refusal;
 pub use refusals::frame_refusal;

@@ -1,5 +1,4 @@
 -- `frame::Shape::chroma_samples` meets its contract: chroma's sides are no longer than luma's, which are within the limit. Assumes nothing.
-use mathlib.Core.Path.{_≡_, refl}
 use native.Mathlib.Omega.{arith}
 use borrow.Author.Needs.{needs}
 use Rattle.frame.proofs.Size.{area-fits, chroma-width-le, chroma-height-le}

@@ -1,5 +1,5 @@
 -- `frame::calls::denoise_frame_call` meets its contract: the numbers first, and then the samples. Assumes nothing.
-use mathlib.Core.Path.{_≡_, refl}
+use mathlib.Core.Path.{refl}
 use mathlib.Core.List.{[], _∷_}
 use lib.ListN.{length}
 use denote.Ref.{now}

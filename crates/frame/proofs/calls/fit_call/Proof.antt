@@ -1,5 +1,5 @@
 -- `frame::calls::fit_call` meets its contract: the frames first, and then the lag. Assumes nothing.
-use mathlib.Core.Path.{_≡_, refl}
+use mathlib.Core.Path.{refl}
 use denote.Ref.{now}
 use Rattle.frame.specs.Questions.{lagKnown}
 use Rattle.frame.specs.Calls.{shapeQuestions, frameQuestions, copyQuestions, frameRefusal, fitRefusal}

@@ -1,5 +1,4 @@
 -- `frame::questions::both_are` meets its contract: `each` ends in true, which changes nothing. Assumes nothing.
-use mathlib.Core.Path.{_≡_, refl}
 use mathlib.Core.Bool.{and-true}
 use Rattle.frame.specs.Questions.{each}
 use Rattle.frame.proofs.questions.both_are.Statement.{statement}

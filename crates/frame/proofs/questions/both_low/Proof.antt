@@ -1,5 +1,4 @@
 -- `frame::questions::both_low` meets its contract: `allLow` ends in true, which changes nothing. Assumes nothing.
-use mathlib.Core.Path.{_≡_, refl}
 use Rattle.frame.specs.Questions.{allLow}
 use mathlib.Core.Bool.{and-true}
 use borrow.Author.Needs.{needs}

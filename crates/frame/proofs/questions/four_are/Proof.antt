@@ -1,5 +1,4 @@
 -- `frame::questions::four_are` meets its contract: two tests, and then those of `both_are`. Assumes nothing.
-use mathlib.Core.Path.{_≡_, refl}
 use borrow.Author.Needs.{needs}
 use Rattle.frame.specs.Questions.{each}
 use Rattle.frame.proofs.questions.four_are.Statement.{statement}

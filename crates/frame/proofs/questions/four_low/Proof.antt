@@ -1,5 +1,4 @@
 -- `frame::questions::four_low` meets its contract: a plane, and then three. Assumes nothing.
-use mathlib.Core.Path.{_≡_, refl}
 use Rattle.frame.specs.Questions.{allLow}
 use Rattle.frame.proofs.Refusal.{and-is}
 use borrow.Author.Needs.{needs}

@@ -1,5 +1,4 @@
 -- `frame::questions::frame_low` meets its contract: a plane, and then two. Assumes nothing.
-use mathlib.Core.Path.{_≡_, refl}
 use Rattle.frame.specs.Questions.{allLow}
 use Rattle.frame.proofs.Refusal.{and-is}
 use borrow.Author.Needs.{needs}

@@ -1,11 +1,10 @@
-use mathlib.Core.Path.{_≡_, refl, sym, _∙_}
-use Prim.Native.Nat.{ℕ, _≤_, _<_, _-_, _^_}
+use mathlib.Core.Path.{_≡_, refl}
+use Prim.Native.Nat.{_≤_, _-_}
 use native.Mathlib.Omega.{arith}
 use borrow.Author.Needs.{needs}
-use lib.Dec.{ltb}
 use lib.ListN.{length, take}
 use denote.Ref.{now}
-use Rattle.frame.proofs.Samples.{Gathered, gathered-none, gathered-more, gathered-all, gathered-any, gathered-shifted}
+use Rattle.frame.proofs.Gathered.{Gathered, gathered-none, gathered-more, gathered-all, gathered-any, gathered-shifted}
 use Rattle.frame.proofs.questions.samples_low.Statement.{statement}
 use Rattle.frame.proofs.questions.samples_low.Tie as tie
 use Rattle.frame.proofs.questions.samples_low.Reads as reads

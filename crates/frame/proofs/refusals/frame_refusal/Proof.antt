@@ -1,6 +1,6 @@
 -- `frame::refusals::frame_refusal` meets its contract: the shape first, and then the lengths against the sizes of an accepted shape. Assumes nothing.
-use mathlib.Core.Path.{_≡_, refl, sym, _∙_}
-use mathlib.Core.List.{List, [], _∷_}
+use mathlib.Core.Path.{refl, sym, _∙_}
+use mathlib.Core.List.{[], _∷_}
 use Rattle.frame.specs.Questions.{frameFilled}
 use Rattle.frame.specs.Calls.{frameQuestions, shapeQuestions}
 use Rattle.frame.proofs.Refusal.{asked, stopped, and-is}

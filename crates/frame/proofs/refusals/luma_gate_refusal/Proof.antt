@@ -1,5 +1,5 @@
 -- `frame::refusals::luma_gate_refusal` meets its contract: the shape first, and then the lengths against the size of an accepted shape. Assumes nothing.
-use mathlib.Core.Path.{_≡_, refl, sym, _∙_}
+use mathlib.Core.Path.{refl, sym, _∙_}
 use mathlib.Core.List.{[], _∷_}
 use Rattle.frame.specs.Questions.{filled}
 use Rattle.frame.specs.Calls.{lumaQuestions, shapeQuestions}
