@@ -5,3 +5,4 @@ mod Cut
 pub mod NearestWhole
 pub mod WholeRoot
 pub mod NearestRoot
+pub mod Coefficient
