@@ -1,18 +1,18 @@
 -- The bit pattern of a finite f64 above zero is k × 2 ^ 52 + c where it is c × 2 ^ k units of 2 ^ -1074: c has 53 digits at most, and 53 unless k is 0 (`pattern`). Assumes nothing.
 use mathlib.Core.Path.{_≡_, refl, sym, ap, _∙_, subst}
 use Prim.Native.Nat.{ℕ, _+_, _-_, _*_, _/_, _^_, _≤_, _<_}
-use native.Mathlib.Nat.{le-trans, le-of-eq, lt-of-lt-of-le, lt-of-le-of-lt, mul-assoc, mul-pos, mul-right-comm, mul-div-cancel, mul-lt-mul-of-pos-right, lt-of-mul-lt-mul-right, le-div-iff-mul-le, sub-add-cancel}
+use native.Mathlib.Nat.{le-trans, le-of-eq, mul-assoc, mul-pos, mul-div-cancel, le-div-iff-mul-le, sub-add-cancel}
 use native.Mathlib.Omega.{arith}
 use mathlib.Core.Bool.{true, false, true≢false}
 use lib.IntN.{ℤ}
 use lib.Dec.{T, ltb→lt}
 use lib.Pow.{pow-pos, pow-add, shl-lt}
-use lib.Ieee.{Float, nan, inf, fin, binary64, up, down, size, fits, toBits}
+use lib.Ieee.{Float, nan, inf, fin, binary64, down, size, fits, toBits}
 use lib.Ieee.Digits.{size-le, size-reaches}
 use lib.Ieee.Fits.{down-pos, kept-lt}
 use lib.Ieee.Exact.{HasValue}
 use lib.Ieee.Positive.{positive, first-pos}
-use Rattle.float.proofs.Units.{Fit, fit, zeros, units-of}
+use Rattle.float.proofs.Units.{Fit, fit, zeros, units-of, units-lt}
 
 pub bits-of-value : (x : Float) (n : ℕ) → HasValue x false n (2 ^ 1074) → toBits binary64 x ≡ (size n - 53) * 2 ^ 52 + n / 2 ^ (size n - 53)
 unfolding toBits
@@ -45,7 +45,7 @@ pattern-of m e f M = record {
   few = kept-lt 53 n;
   some = first-pos c (2 ^ k) (subst (λ (x : ℕ). 0 < x) (sym whole) n-pos);
   lead = λ h. le-div-iff-mul-le (pow-pos k) .1 (le-trans (le-of-eq (sym (pow-add 2 52 k))) (size-reaches n (52 + k) (reached (size n) h)));
-  top = less (size n) (size-le n 2098 n-lt);
+  top = less (size n) (size-le n 2098 (units-lt m e f));
 }
   where
     z : ℕ
@@ -77,12 +77,6 @@ pattern-of m e f M = record {
 
     reached : (s : ℕ) → 0 < s - 53 → 52 + (s - 53) < s
     reached s h = omega arith
-
-    n-lt : n < 2 ^ 2098
-    n-lt =
-        lt-of-mul-lt-mul-right (down e)
-        (lt-of-le-of-lt (le-of-eq (sym (units-of m e f)))
-        (lt-of-lt-of-le (mul-lt-mul-of-pos-right (f .small) (pow-pos 1074)) (le-of-eq (mul-right-comm (2 ^ 1024) (down e) (2 ^ 1074)))))
 
     less : (s : ℕ) → s ≤ 2098 → s - 53 ≤ 2045
     less s h = omega arith
