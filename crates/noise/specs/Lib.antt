@@ -2,3 +2,4 @@ pub mod Noise
 pub mod Shift
 pub mod Average
 pub mod Lines
+pub mod Grids
