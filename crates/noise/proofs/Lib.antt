@@ -5,3 +5,4 @@ pub mod BlockSums
 pub mod LineSums
 pub mod NoiseSums
 pub mod Grids
+pub mod Quarters

@@ -3,3 +3,4 @@ pub mod Shift
 pub mod Average
 pub mod Lines
 pub mod Grids
+pub mod Quarters
