@@ -1,0 +1,2 @@
+pub mod Denoise
+pub mod Line

@@ -1,0 +1,3 @@
+// The denoised plane and the denoised frame.
+mod line;
+mod plane;
