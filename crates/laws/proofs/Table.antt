@@ -1,6 +1,6 @@
 -- The laws of `tabulate`: its length and entries, and a list that is filled from the front, store by store. Assumes nothing.
 use mathlib.Core.Path.{_≡_, refl, sym, _∙_}
-use mathlib.Core.List.{List, [], _∷_, _++_}
+use mathlib.Core.List.{List, [], _∷_, _++_, map, map-append}
 use mathlib.Core.Logic.{⊎-elim}
 use Prim.Native.Nat.{ℕ, zero, suc, _+_, _<_, _≤_}
 use native.Mathlib.Omega.{arith}
@@ -43,3 +43,7 @@ module _ {ℓ} {A : Type ℓ} where
   pub tabulate-same : (n : ℕ) (f g : ℕ → A) → ((i : ℕ) → i < n → f i ≡ g i) → tabulate n f ≡ tabulate n g
   tabulate-same zero f g h = refl
   tabulate-same (suc n) f g h = rw (tabulate-same n f g (λ i l. h i (le-trans l (le-suc n))), h n (le-refl (suc n)))
+
+pub map-tabulate {ℓ κ} : {A : Type ℓ} {B : Type κ} (g : A → B) (n : ℕ) (f : ℕ → A) → map g (tabulate n f) ≡ tabulate n (λ i. g (f i))
+map-tabulate g zero f = refl
+map-tabulate g (suc n) f = map-append g (tabulate n f) (f n ∷ []) ∙ rw (map-tabulate g n f)

@@ -1,0 +1,1 @@
+// Lines of noise, and sums of products of two lines.
