@@ -1,3 +1,4 @@
 pub mod Size
 pub mod Text
 pub mod Questions
+pub mod Calls

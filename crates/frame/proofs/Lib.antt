@@ -1,0 +1,5 @@
+pub mod Size
+pub mod Refusal
+pub mod Samples
+pub mod Facts
+pub mod Accepted
