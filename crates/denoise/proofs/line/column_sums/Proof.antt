@@ -1,17 +1,15 @@
+-- `denoise::line::column_sums`: each turn stores the next column's sum after the first column's; the last is stored once more. Assumes nothing.
 use mathlib.Core.Path.{_≡_, refl}
 use mathlib.Core.List.{List}
-use Prim.Native.Nat.{ℕ, _+_, _*_, _-_, _^_, _<_, _≤_, min}
+use Prim.Native.Nat.{ℕ, _+_, _-_, _<_, _≤_, min}
 use native.Mathlib.Omega.{arith}
+use lib.ListN.{length, take, set, length-set}
 use borrow.Author.Needs.{needs}
-use lib.ListN.{length, getD, take, set, length-set}
 use Rattle.laws.specs.Table.{tabulate}
 use Rattle.laws.proofs.Table.{tabulate-more, tabulate-at, tabulate-ends}
 use Rattle.denoise.specs.Line.{columnSum, columnSums}
 use Rattle.denoise.proofs.line.column_sums.Statement.{statement}
 use Rattle.denoise.proofs.line.column_sums.Tie as tie
-use Rattle.denoise.proofs.line.column_sums.Reads as reads
-use Rattle.denoise.proofs.line.column_sums.Lts as lts
-use Rattle.denoise.proofs.line.column_sum.Reads as column-sum-reads
 
 -- the sum of column i - 1, held at the edge
 abbrev held : List ℕ → List ℕ → List ℕ → ℕ → ℕ → ℕ

@@ -1,17 +1,14 @@
+-- `denoise::line::line_means`: each turn stores the next mean, which fits since no sum exceeds 4 × 65,535. Assumes nothing.
 use mathlib.Core.Path.{_≡_, refl}
-use Prim.Native.Nat.{_+_, _*_, _-_, _^_, _<_, _≤_}
+use Prim.Native.Nat.{_+_, _-_, _≤_}
 use native.Mathlib.Omega.{arith}
+use lib.ListN.{length, take, length-set}
 use borrow.Author.Needs.{needs}
-use lib.ListN.{length, getD, take, length-set}
 use Rattle.laws.specs.Table.{tabulate}
 use Rattle.laws.proofs.Table.{tabulate-more, tabulate-ends}
-use Rattle.denoise.specs.Line.{columnSum, lineMean}
+use Rattle.denoise.specs.Line.{lineMean}
 use Rattle.denoise.proofs.line.line_means.Statement.{statement}
 use Rattle.denoise.proofs.line.line_means.Tie as tie
-use Rattle.denoise.proofs.line.line_means.Reads as reads
-use Rattle.denoise.proofs.line.line_means.Lts as lts
-use Rattle.denoise.proofs.line.mean_of.Reads as mean-of-reads
-use Rattle.denoise.proofs.line.weigh_three.Reads as weigh-three-reads
 
 abbrev Inv-loop : tie.InvT-loop
 Inv-loop line out₀ c₀ c-end out c = (c-end ≡ length out₀) × (c ≤ length out₀) × (length out ≡ length out₀) × (take c out ≡ tabulate c (lineMean line))

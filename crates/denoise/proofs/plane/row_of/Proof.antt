@@ -1,11 +1,10 @@
+-- `denoise::plane::row_of`: the part from row × width on, width long. Assumes nothing.
 use mathlib.Core.Path.{refl}
-use Rattle.denoise.proofs.Rows.{row-length}
 use native.Mathlib.Nat.{add-sub-cancel-left}
 use borrow.Author.Needs.{needs}
+use Rattle.denoise.proofs.Rows.{row-length}
 use Rattle.denoise.proofs.plane.row_of.Statement.{statement}
 use Rattle.denoise.proofs.plane.row_of.Tie as tie
-use Rattle.denoise.proofs.plane.row_of.Reads as reads
-use Rattle.denoise.proofs.plane.row_of.Lts as lts
 
 mul-a : tie.Need-mul-a
 mul-a c = search needs

@@ -1,16 +1,13 @@
+-- `denoise::plane::smooth_plane`: a plane of no columns holds nothing; any other is done by rows, in a line with room for the widest. Assumes nothing.
 use mathlib.Core.Path.{_≡_, sym}
-use Prim.Native.Nat.{ℕ, _+_, _*_, _≤_}
+use Prim.Native.Nat.{_+_}
 use native.Mathlib.Omega.{arith}
 use lib.ListN.{length, take}
 use lib.Seq.{length-take-le}
-use Rattle.denoise.proofs.Rows.{rows-none}
 use borrow.Author.Needs.{needs}
+use Rattle.denoise.proofs.Rows.{rows-none}
 use Rattle.denoise.proofs.plane.smooth_plane.Statement.{statement}
 use Rattle.denoise.proofs.plane.smooth_plane.Tie as tie
-use Rattle.denoise.proofs.plane.smooth_plane.Reads as reads
-use Rattle.denoise.proofs.plane.smooth_plane.Lts as lts
-use Rattle.denoise.proofs.plane.blank_line.Reads as blank-line-reads
-use Rattle.denoise.proofs.plane.smooth_rows.Reads as smooth-rows-reads
 
 returns : tie.Need-returns
 returns c = let S = c .before .before .before in rows-none (S .args .src .now) (S .args .width) (S .args .height) (S .args .dst .now) (c .if1 .taken) (S .pre .2)

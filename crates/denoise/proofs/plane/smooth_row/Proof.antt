@@ -1,21 +1,11 @@
-use mathlib.Core.Path.{_≡_, refl, sym, _∙_}
-use Prim.Native.Nat.{ℕ, _+_, _*_, _<_, _≤_}
+-- `denoise::plane::smooth_row`: the line is filled from the three rows about the row, and its means are the row of the result. Assumes nothing.
+use mathlib.Core.Path.{_≡_, _∙_}
 use native.Mathlib.Omega.{arith}
-use lib.ListN.{length}
-use Rattle.laws.proofs.Table.{tabulate-same}
-use Rattle.denoise.specs.Line.{lineMean}
-use Rattle.denoise.specs.Denoise.{before, after, smoothed}
-use Rattle.denoise.proofs.Rows.{row-within, row-length, sumsAbout, sums-low, means-smooth}
 use borrow.Author.Needs.{needs}
+use Rattle.denoise.proofs.Rows.{row-within}
+use Rattle.denoise.proofs.Separable.{sumsAbout, sums-low, means-smooth}
 use Rattle.denoise.proofs.plane.smooth_row.Statement.{statement}
 use Rattle.denoise.proofs.plane.smooth_row.Tie as tie
-use Rattle.denoise.proofs.plane.smooth_row.Reads as reads
-use Rattle.denoise.proofs.plane.smooth_row.Lts as lts
-use Rattle.denoise.proofs.line.column_sums.Reads as column-sums-reads
-use Rattle.denoise.proofs.line.line_means.Reads as line-means-reads
-use Rattle.denoise.proofs.plane.place_after.Reads as place-after-reads
-use Rattle.denoise.proofs.plane.place_before.Reads as place-before-reads
-use Rattle.denoise.proofs.plane.row_of.Reads as row-of-reads
 
 place-before-requires : tie.Need-place-before-requires
 place-before-requires c κs = search needs

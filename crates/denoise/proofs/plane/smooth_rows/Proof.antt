@@ -1,16 +1,14 @@
-use mathlib.Core.Path.{_≡_, refl, sym, _∙_}
-use Prim.Native.Nat.{ℕ, _+_, _-_, _*_, _<_, _≤_}
+-- `denoise::plane::smooth_rows`: each turn stores one row more of the denoised plane. Assumes nothing.
+use mathlib.Core.Path.{_≡_}
+use Prim.Native.Nat.{_+_, _-_, _*_, _≤_}
 use native.Mathlib.Nat.{zero-mul, add-sub-cancel-left}
 use native.Mathlib.Omega.{arith}
-use borrow.Author.Needs.{needs}
 use lib.ListN.{length, take}
+use borrow.Author.Needs.{needs}
 use Rattle.laws.specs.Table.{tabulate}
 use Rattle.denoise.proofs.Rows.{entry, row-within, row-length, rows-more, rows-all}
 use Rattle.denoise.proofs.plane.smooth_rows.Statement.{statement}
 use Rattle.denoise.proofs.plane.smooth_rows.Tie as tie
-use Rattle.denoise.proofs.plane.smooth_rows.Reads as reads
-use Rattle.denoise.proofs.plane.smooth_rows.Lts as lts
-use Rattle.denoise.proofs.plane.smooth_row.Reads as smooth-row-reads
 
 abbrev Inv-loop : tie.InvT-loop
 Inv-loop src width height line₀ dst₀ row₀ line dst row = (row ≤ height) × (length line ≡ width + 2) × (length dst ≡ width * height) × (take (row * width) dst ≡ tabulate (row * width) (entry src width height))
