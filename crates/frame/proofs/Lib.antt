@@ -3,3 +3,4 @@ pub mod Refusal
 pub mod Samples
 pub mod Facts
 pub mod Accepted
+pub mod Cases

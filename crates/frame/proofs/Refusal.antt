@@ -7,12 +7,13 @@ use native.Mathlib.Omega.{arith}
 use Rattle.frame.specs.Questions.{Question, firstNo, accepted}
 
 -- a refused call changes nothing, an accepted one brings the new
-pub refused : {A : Type 0} (n : ℕ) (new old : A) → (n ≡ 0 → ⊥) → accepted n new old ≡ old
-refused zero new old h = absurd (h refl)
-refused (suc n) new old h = refl
+module _ {ℓ} {A : Type ℓ} where
+  pub refused : (n : ℕ) (new old : A) → (n ≡ 0 → ⊥) → accepted n new old ≡ old
+  refused zero new old h = absurd (h refl)
+  refused (suc n) new old h = refl
 
-pub granted : {A : Type 0} (n : ℕ) (new old : A) → n ≡ 0 → accepted n new old ≡ new
-granted n new old e = rw e
+  pub granted : (n : ℕ) (new old : A) → n ≡ 0 → accepted n new old ≡ new
+  granted n new old e = rw e
 
 -- every question has a number, which is not 0
 abbrev pub numbered : List Question → Bool

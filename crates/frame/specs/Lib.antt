@@ -2,3 +2,4 @@ pub mod Size
 pub mod Text
 pub mod Questions
 pub mod Calls
+pub mod Cases

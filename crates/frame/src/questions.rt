@@ -2,7 +2,7 @@
 ghost use mathlib.Core.Path.{_≡_};
 ghost use mathlib.Core.Bool.{cond};
 ghost use mathlib.Core.List.{[], _∷_};
-ghost use Rattle.frame.specs.Questions.{accepted, small, present, depthKnown, formatKnown, each};
+ghost use Rattle.frame.specs.Questions.{accepted, small, present, depthKnown, formatKnown, each, low, allLow};
 
 // The largest width and the largest height.
 const SIDE_LIMIT: usize = 4096;
@@ -60,4 +60,39 @@ pub fn four_are(n: usize, a: usize, b: usize, c: usize, d: usize) -> bool
     ensures { λ r. ⌜ r ≡ each n (a ∷ b ∷ c ∷ d ∷ []) ⌝ }
 {
     (a == n) & ((b == n) & both_are(n, c, d))
+}
+
+// Every sample is below 2^depth: no sample has a bit at `depth` or above, so neither has the or of them all.
+pub fn samples_low(plane: &[u16], depth: u8) -> bool
+    ensures { λ r. ⌜ r ≡ low depth (now (plane .entry)) ⌝ }
+{
+    let mut bits: u16 = 0;
+    for i in 0..plane.len() {
+        bits |= plane[i];
+    }
+    if 16 <= depth {
+        return true;
+    }
+    bits >> depth == 0
+}
+
+// Every sample of two planes is below 2^depth.
+pub fn both_low(depth: u8, a: &[u16], b: &[u16]) -> bool
+    ensures { λ r. ⌜ r ≡ allLow depth (now (a .entry) ∷ now (b .entry) ∷ []) ⌝ }
+{
+    samples_low(a, depth) & samples_low(b, depth)
+}
+
+// Every sample of three planes is below 2^depth.
+pub fn frame_low(depth: u8, y: &[u16], cb: &[u16], cr: &[u16]) -> bool
+    ensures { λ r. ⌜ r ≡ allLow depth (now (y .entry) ∷ now (cb .entry) ∷ now (cr .entry) ∷ []) ⌝ }
+{
+    samples_low(y, depth) & both_low(depth, cb, cr)
+}
+
+// Every sample of four planes is below 2^depth.
+pub fn four_low(depth: u8, a: &[u16], b: &[u16], c: &[u16], d: &[u16]) -> bool
+    ensures { λ r. ⌜ r ≡ allLow depth (now (a .entry) ∷ now (b .entry) ∷ now (c .entry) ∷ now (d .entry) ∷ []) ⌝ }
+{
+    samples_low(a, depth) & frame_low(depth, b, c, d)
 }

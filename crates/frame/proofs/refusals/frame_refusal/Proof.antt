@@ -1,4 +1,4 @@
--- `frame::frame_refusal` meets its contract: the shape first, and then the lengths against the sizes of an accepted shape. Assumes nothing.
+-- `frame::refusals::frame_refusal` meets its contract: the shape first, and then the lengths against the sizes of an accepted shape. Assumes nothing.
 use mathlib.Core.Path.{_≡_, refl, sym, _∙_}
 use mathlib.Core.List.{List, [], _∷_}
 use Rattle.frame.specs.Questions.{frameFilled}
@@ -6,8 +6,8 @@ use Rattle.frame.specs.Calls.{frameQuestions, shapeQuestions}
 use Rattle.frame.proofs.Refusal.{asked, stopped, and-is}
 use Rattle.frame.proofs.Facts.{Known, is-known}
 use borrow.Author.Needs.{needs}
-use Rattle.frame.proofs.frame_refusal.Statement.{statement}
-use Rattle.frame.proofs.frame_refusal.Tie as tie
+use Rattle.frame.proofs.refusals.frame_refusal.Statement.{statement}
+use Rattle.frame.proofs.refusals.frame_refusal.Tie as tie
 
 shape-refusal-requires : tie.Need-shape-refusal-requires
 shape-refusal-requires c κs = search needs

@@ -1,4 +1,4 @@
--- `frame::plane_refusal` meets its contract: the size first, and within the limit the product fits. Assumes nothing.
+-- `frame::refusals::plane_refusal` meets its contract: the size first, and within the limit the product fits. Assumes nothing.
 use mathlib.Core.Path.{_≡_, refl, sym, _∙_}
 use mathlib.Core.List.{[], _∷_}
 use Rattle.frame.specs.Questions.{firstNo, small, filled}
@@ -7,8 +7,8 @@ use Rattle.frame.proofs.Size.{area-fits}
 use Rattle.frame.proofs.Refusal.{asked, stopped, passed}
 use Rattle.frame.proofs.Facts.{is-small}
 use borrow.Author.Needs.{needs}
-use Rattle.frame.proofs.plane_refusal.Statement.{statement}
-use Rattle.frame.proofs.plane_refusal.Tie as tie
+use Rattle.frame.proofs.refusals.plane_refusal.Statement.{statement}
+use Rattle.frame.proofs.refusals.plane_refusal.Tie as tie
 
 is-small-requires : tie.Need-is-small-requires
 is-small-requires c κs = search needs

@@ -1,12 +1,12 @@
--- `frame::shape_refusal` meets its contract, a question at a time. Assumes nothing.
+-- `frame::refusals::shape_refusal` meets its contract, a question at a time. Assumes nothing.
 use mathlib.Core.Path.{refl}
 use mathlib.Core.List.{[], _∷_}
 use Rattle.frame.specs.Questions.{small, present, depthKnown, formatKnown}
 use Rattle.frame.specs.Calls.{shapeQuestions}
 use Rattle.frame.proofs.Refusal.{asked}
 use borrow.Author.Needs.{needs}
-use Rattle.frame.proofs.shape_refusal.Statement.{statement}
-use Rattle.frame.proofs.shape_refusal.Tie as tie
+use Rattle.frame.proofs.refusals.shape_refusal.Statement.{statement}
+use Rattle.frame.proofs.refusals.shape_refusal.Tie as tie
 
 is-small-requires : tie.Need-is-small-requires
 is-small-requires c κs = search needs

@@ -1,4 +1,4 @@
--- `frame::chroma_gate_refusal` meets its contract: the shape first, and then the lengths against the size of an accepted shape. Assumes nothing.
+-- `frame::refusals::chroma_gate_refusal` meets its contract: the shape first, and then the lengths against the size of an accepted shape. Assumes nothing.
 use mathlib.Core.Path.{_≡_, refl, sym, _∙_}
 use mathlib.Core.List.{[], _∷_}
 use Rattle.frame.specs.Size.{chromaWidth, chromaHeight}
@@ -7,8 +7,8 @@ use Rattle.frame.specs.Calls.{chromaQuestions, shapeQuestions}
 use Rattle.frame.proofs.Refusal.{asked, stopped}
 use Rattle.frame.proofs.Facts.{Known, is-known}
 use borrow.Author.Needs.{needs}
-use Rattle.frame.proofs.chroma_gate_refusal.Statement.{statement}
-use Rattle.frame.proofs.chroma_gate_refusal.Tie as tie
+use Rattle.frame.proofs.refusals.chroma_gate_refusal.Statement.{statement}
+use Rattle.frame.proofs.refusals.chroma_gate_refusal.Tie as tie
 
 shape-refusal-requires : tie.Need-shape-refusal-requires
 shape-refusal-requires c κs = search needs
