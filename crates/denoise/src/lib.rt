@@ -1,6 +1,7 @@
 // The denoised plane and the denoised frame.
+use frame::Shape;
 ghost use mathlib.Core.Path.{_≡_};
-ghost use Rattle.denoise.specs.Calls.{planeOutcome};
+ghost use Rattle.denoise.specs.Calls.{planeOutcome, planes, frameOutcome};
 
 mod line;
 mod plane;
@@ -14,5 +15,29 @@ pub fn denoise_plane(src: &[u16], dst: &mut [u16], width: usize, height: usize) 
         return n;
     }
     plane::smooth_plane(src, dst, width, height);
+    0
+}
+
+// The same of each plane of a frame, at its own size.
+pub fn denoise_frame(
+    s: Shape,
+    y: &[u16],
+    cb: &[u16],
+    cr: &[u16],
+    dy: &mut [u16],
+    dcb: &mut [u16],
+    dcr: &mut [u16],
+) -> u32
+    ensures { λ r. ⌜ (r, planes (now (dy .exit)) (now (dcb .exit)) (now (dcr .exit))) ≡ frameOutcome s (planes (now (y .entry)) (now (cb .entry)) (now (cr .entry))) (planes (now (dy .entry)) (now (dcb .entry)) (now (dcr .entry))) ⌝ }
+{
+    let n = frame::denoise_frame_call(s, y, cb, cr, dy.len(), dcb.len(), dcr.len());
+    if n != 0 {
+        return n;
+    }
+    let w = s.chroma_width();
+    let h = s.chroma_height();
+    plane::smooth_plane(y, dy, s.width, s.height);
+    plane::smooth_plane(cb, dcb, w, h);
+    plane::smooth_plane(cr, dcr, w, h);
     0
 }
