@@ -1,0 +1,4 @@
+pub mod Sign
+pub mod Column
+pub mod Answer
+pub mod Cases

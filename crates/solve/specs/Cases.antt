@@ -1,0 +1,60 @@
+-- "* Solver order 2, rows 0 1 and 1 0, right side 3, 4: 4, 3. Order 0 and 26: 8. Pivot 1e-9 passes." "No solution if a pivot's magnitude is below 1e-9; a NaN pivot passes."
+use mathlib.Core.Bool.{true, false}
+use mathlib.Core.List.{List, [], _∷_, _++_}
+use Prim.Native.Nat.{ℕ, _-_}
+use lib.IntN.{pos}
+use lib.ListN.{length, replicate}
+use lib.Ieee.{Float, nan, neg, binary64, ofBits, ofInt}
+use Rattle.laws.specs.Cases.{Case}
+use Rattle.solve.specs.Elimination.{Row, Matrix, plusZero, limit}
+use Rattle.solve.specs.Answer.{unsolvedOf, solvedOf}
+use Rattle.solve.specs.declared.Solved.{Solved}
+
+-- the matrix, the right side and the order
+abbrev pub Input : Type 0
+Input = Matrix × Row × ℕ
+
+abbrev pub solved : Input → Solved
+solved x = solvedOf (x .0) (x .1) (x .2)
+
+-- these, and unused ones up to 25
+abbrev pub filled : {A : Type 0} → A → List A → List A
+filled unused xs = xs ++ replicate (25 - length xs) unused
+
+abbrev pub row : Row → Row
+row = filled plusZero
+
+abbrev pub rows : Matrix → Matrix
+rows = filled (row [])
+
+abbrev pub whole : ℕ → Float
+whole n = ofInt binary64 (pos n)
+
+-- the next below 1e-9
+abbrev pub underLimit : Float
+underLimit = ofBits binary64 0x3e11_2e0b_e826_d694
+
+-- one equation, x × a = b
+abbrev pub single : Float → Float → Input
+single a b = (rows (row (a ∷ []) ∷ []), row (b ∷ []), 1)
+
+abbrev pub solution : List Float → Solved
+solution xs = record { refusal = 0; found = true; solution = record { order = length xs; values = row xs } }
+
+abbrev pub cases : List (Case Input Solved)
+cases =
+    record {
+      input = (rows (row (whole 0 ∷ whole 1 ∷ []) ∷ row (whole 1 ∷ whole 0 ∷ []) ∷ []), row (whole 3 ∷ whole 4 ∷ []), 2);
+      stated = solution (whole 4 ∷ whole 3 ∷ []);
+    } ∷
+    record {
+      input = (rows (row (whole 1 ∷ whole 1 ∷ []) ∷ row (whole 1 ∷ whole 1 ∷ []) ∷ []), row (whole 3 ∷ whole 4 ∷ []), 2);
+      stated = unsolvedOf 0;
+    } ∷
+    record { input = (rows [], row [], 0); stated = unsolvedOf 8 } ∷
+    record { input = (rows [], row [], 26); stated = unsolvedOf 8 } ∷
+    record { input = single limit limit; stated = solution (whole 1 ∷ []) } ∷
+    record { input = single (neg limit) limit; stated = solution (neg (whole 1) ∷ []) } ∷
+    record { input = single underLimit limit; stated = unsolvedOf 0 } ∷
+    record { input = single nan limit; stated = solution (nan ∷ []) } ∷
+    []

@@ -1,0 +1,4 @@
+pub mod Magnitude
+pub mod Elimination
+pub mod Answer
+pub mod Cases
