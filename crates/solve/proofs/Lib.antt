@@ -2,3 +2,10 @@ pub mod Sign
 pub mod Column
 pub mod Answer
 pub mod Cases
+pub mod Together
+pub mod Alike
+pub mod Used
+pub mod Values
+pub mod Order
+pub mod Pivot
+pub mod Limit
