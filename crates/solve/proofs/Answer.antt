@@ -2,15 +2,15 @@
 use mathlib.Core.Path.{_≡_, refl, sym, ap, _∙_}
 use mathlib.Core.Bool.{Bool, true, false, _&&_}
 use mathlib.Core.List.{[], _∷_}
-use Prim.Native.Nat.{ℕ, zero, suc, _≤_, _<_}
+use Prim.Native.Nat.{ℕ, zero, suc, _≤_}
 use native.Mathlib.Omega.{arith}
 use lib.Dec.{leb}
 use borrow.Author.Tests.{leb-true}
-use Rattle.frame.specs.Questions.{firstNo, accepted}
 use Rattle.laws.specs.Loop.{loop}
 use Rattle.laws.proofs.Loop.{loop-fixed}
+use Rattle.frame.specs.Questions.{firstNo, accepted}
 use Rattle.solve.specs.declared.Solved.{Solved}
-use Rattle.solve.specs.Elimination.{Matrix, Row, System, Stage, going, none, column, eliminated, substituted}
+use Rattle.solve.specs.Elimination.{Matrix, Row, going, none, column, eliminated, substituted}
 use Rattle.solve.specs.Answer.{refusalOf, unsolvedOf, answerOf, solvedOf}
 use Rattle.solve.proofs.Column.{none-stays}
 

@@ -1,11 +1,15 @@
--- A column's step from what its parts return, and that no column changes the end at a small pivot. Assumes nothing.
-use mathlib.Core.Path.{_≡_, refl, sym, ap, _∙_}
+-- A pivot's test and a column's step from what their parts return, and that no column changes the end at a small pivot. Assumes nothing.
+use mathlib.Core.Path.{_≡_, refl, _∙_}
 use mathlib.Core.Bool.{Bool, cond}
 use mathlib.Core.List.{[]}
 use Prim.Native.Nat.{ℕ}
 use lib.Ieee.{Float, nan, lt}
-use Rattle.solve.specs.Magnitude.{magnitudeOf}
-use Rattle.solve.specs.Elimination.{Matrix, Row, System, Stage, going, none, cell, limit, pivotOf, swapped, pivoted, cleared, tested, column}
+use Rattle.float.specs.Magnitude.{magnitudeOf}
+use Rattle.solve.specs.Elimination.{Matrix, Row, going, none, cell, limit, pivotOf, swapped, pivoted, cleared, tested, column}
+
+-- what a test on two magnitudes picks, said of the floats that they are the magnitudes of
+pub picked : (p q u v : Float) (t : Bool) (x y z : ℕ) → p ≡ u → q ≡ v → lt p q ≡ t → z ≡ cond t x y → z ≡ cond (lt u v) x y
+picked p q u v t x y z e d h k = k ∙ rw (← h, e, d)
 
 -- k is the pivot's row, m and d the matrix and the right side with that row at i, and x the pivot's magnitude
 pub column-is : (p i : ℕ) (a : Matrix) (b : Row) (k : ℕ) (m : Matrix) (d : Row) (x : Float) (t : Bool)

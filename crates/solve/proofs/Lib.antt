@@ -1,4 +1,3 @@
-pub mod Sign
 pub mod Column
 pub mod Answer
 pub mod Cases

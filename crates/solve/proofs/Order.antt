@@ -10,7 +10,7 @@ use lib.Dec.{ltb, eqb}
 use lib.Ieee.{Float, nan, inf, fin, up, down, lt, eq, le, isNan}
 use lib.Ieee.Fits.{down-pos}
 use borrow.Author.Tests.{ltb-true, ltb-false, lt-ltb, le-ltb, eq-eqb, ne-eqb}
-use Rattle.solve.specs.Magnitude.{magnitudeOf}
+use Rattle.float.specs.Magnitude.{magnitudeOf}
 
 differ : false ≡ true → ⊥
 differ e = true≢false (sym e)

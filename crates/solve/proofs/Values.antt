@@ -1,14 +1,14 @@
--- "The solution is a count with 25 f64 values, unused ones plus zero." A found solution's count is the order; every answer has 25 values, plus zero from its count on. Assumes nothing.
-use mathlib.Core.Path.{_≡_, refl, sym, _∙_}
-use mathlib.Core.Bool.{true, false}
+-- "The solution is a count with 25 f64 values, unused ones plus zero": a found solution's count is the order, and every answer has 25 values, plus zero from its count on. Assumes nothing.
+use mathlib.Core.Path.{_≡_, refl, _∙_}
+use mathlib.Core.Bool.{true}
 use Prim.Native.Nat.{ℕ, zero, suc, _-_, _≤_, _<_}
 use native.Mathlib.Omega.{arith}
-use lib.ListN.{length, getD, set, replicate, length-set, length-replicate, getD-replicate}
+use lib.ListN.{length, replicate, length-set, length-replicate, getD-replicate}
 use lib.Seq.{getD-set-other}
 use lib.Ieee.{nan}
 use Rattle.frame.specs.Questions.{accepted}
 use Rattle.solve.specs.declared.Solved.{Solved}
-use Rattle.solve.specs.Elimination.{Row, Matrix, System, Stage, going, none, value, plusZero, eliminated, placed, substituted}
+use Rattle.solve.specs.Elimination.{Row, Matrix, System, Stage, going, none, value, plusZero, placed, substituted}
 use Rattle.solve.specs.Answer.{refusalOf, unsolvedOf, answerOf, solvedOf}
 use Rattle.solve.proofs.Together.{loops-together}
 
@@ -33,23 +33,24 @@ unfolding substituted
 padded-substituted p s =
     loops-together (λ _ x _. Padded p x) 0 p (placed p s) (λ _ u. u) (padded-placed p s) (omega arith) _ tt (zeros-padded p)
 
--- what holds of every answer
-pub record Whole (order : ℕ) (r : Solved) : Type 0 where
-  pub padded : Padded (r .solution .order) (r .solution .values)
+-- what holds of every answer: its number, its count where a solution is found, and its values
+pub record Whole (refusal order : ℕ) (r : Solved) : Type 0 where
+  pub numbered : r .refusal ≡ refusal
   pub counted : r .found ≡ true → r .solution .order ≡ order
+  pub padded : Padded (r .solution .order) (r .solution .values)
 
-whole-unsolved : (order n : ℕ) → Whole order (unsolvedOf n)
-whole-unsolved order n = record { padded = zeros-padded 0; counted = λ e. cc }
+whole-unsolved : (n order : ℕ) → Whole n order (unsolvedOf n)
+whole-unsolved n order = record { numbered = refl; counted = λ e. cc; padded = zeros-padded 0 }
 
-whole-answer : (order : ℕ) (s : Stage) → Whole order (answerOf order s)
+whole-answer : (order : ℕ) (s : Stage) → Whole 0 order (answerOf order s)
 unfolding answerOf
-whole-answer order none = whole-unsolved order 0
-whole-answer order (going s) = record { padded = padded-substituted order s; counted = λ _. refl }
+whole-answer order none = whole-unsolved 0 order
+whole-answer order (going s) = record { numbered = refl; counted = λ _. refl; padded = padded-substituted order s }
 
-whole-accepted : (order n : ℕ) (x y : Solved) → Whole order x → Whole order y → Whole order (accepted n x y)
-whole-accepted order zero x y h l = h
-whole-accepted order (suc n) x y h l = l
+whole-accepted : (n order : ℕ) (x y : Solved) → Whole 0 order x → Whole n order y → Whole n order (accepted n x y)
+whole-accepted zero order x y h l = h
+whole-accepted (suc n) order x y h l = l
 
-pub solved-whole : (a : Matrix) (b : Row) (order : ℕ) → Whole order (solvedOf a b order)
+pub solved-whole : (a : Matrix) (b : Row) (order : ℕ) → Whole (refusalOf order) order (solvedOf a b order)
 unfolding solvedOf
-solved-whole a b order = whole-accepted order (refusalOf order) _ _ (whole-answer order _) (whole-unsolved order _)
+solved-whole a b order = whole-accepted (refusalOf order) order _ _ (whole-answer order _) (whole-unsolved _ order)

@@ -4,7 +4,7 @@ use mathlib.Core.List.{[], _∷_}
 use Prim.Native.Nat.{ℕ}
 use lib.ListN.{replicate}
 use Rattle.frame.specs.Questions.{orderKnown, firstNo, accepted}
-use Rattle.solve.specs.Elimination.{Row, Matrix, System, Stage, going, none, plusZero, eliminated, substituted}
+use Rattle.solve.specs.Elimination.{Row, Matrix, Stage, going, none, plusZero, eliminated, substituted}
 use Rattle.solve.specs.declared.Solved.{Solved}
 
 -- the question put to the call

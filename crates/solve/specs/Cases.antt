@@ -1,5 +1,5 @@
 -- "* Solver order 2, rows 0 1 and 1 0, right side 3, 4: 4, 3. Order 0 and 26: 8. Pivot 1e-9 passes." "No solution if a pivot's magnitude is below 1e-9; a NaN pivot passes."
-use mathlib.Core.Bool.{true, false}
+use mathlib.Core.Bool.{true}
 use mathlib.Core.List.{List, [], _∷_, _++_, map}
 use Prim.Native.Nat.{ℕ, _-_}
 use lib.IntN.{pos}

@@ -1,12 +1,12 @@
 -- "Gaussian elimination on a matrix of 25 rows of 25 f64, of which `order` are used, in the Rust's order of operations, no fused multiply. The pivot is the first of largest magnitude by `>`. No solution if a pivot's magnitude is below 1e-9; a NaN pivot passes."
 -- The steps of the Rust's `solve_normal`, each under its line; p is the order.
-use mathlib.Core.Bool.{Bool, true, false, cond}
+use mathlib.Core.Bool.{cond}
 use mathlib.Core.List.{List, []}
 use Prim.Native.Nat.{ℕ, _+_, _-_}
 use lib.ListN.{getD, set, replicate}
 use lib.Ieee.{Float, nan, binary64, sub, mul, div, lt, ofBits}
 use Rattle.laws.specs.Loop.{loop}
-use Rattle.solve.specs.Magnitude.{magnitudeOf}
+use Rattle.float.specs.Magnitude.{magnitudeOf}
 
 abbrev pub Row : Type 0
 Row = List Float

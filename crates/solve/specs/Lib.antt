@@ -1,4 +1,3 @@
-pub mod Magnitude
 pub mod Elimination
 pub mod Answer
 pub mod Cases

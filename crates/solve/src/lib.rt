@@ -3,7 +3,6 @@ ghost use mathlib.Core.Path.{_≡_};
 ghost use mathlib.Core.List.{[]};
 ghost use Prim.Native.Nat.{_<_, _≤_};
 ghost use lib.Ieee.{nan};
-ghost use Rattle.solve.specs.Magnitude.{magnitudeOf};
 ghost use Rattle.solve.specs.Elimination.{System, pivotOf, swapped, cleared, unknownOf, substituted};
 ghost use Rattle.solve.specs.Answer.{refusalOf, unsolvedOf, solvedOf};
 
@@ -18,19 +17,6 @@ pub struct Solved {
     pub solution: Solution,
 }
 
-// |x|
-fn magnitude(x: f64) -> f64
-    ensures { λ r. ⌜ r ≡ magnitudeOf x ⌝ }
-{
-    if x < 0.0 {
-        return -x;
-    }
-    if x == 0.0 {
-        return 0.0;
-    }
-    x
-}
-
 // The first row from i on with the largest |a[r][i]|.
 fn pivot_row(a: [[f64; 25]; 25], order: usize, i: usize) -> usize
     requires { ⌜ (i < order) × (order ≤ 25) ⌝ }
@@ -38,7 +24,7 @@ fn pivot_row(a: [[f64; 25]; 25], order: usize, i: usize) -> usize
 {
     let mut piv = i;
     for r in i + 1..order {
-        if magnitude(a[r][i]) > magnitude(a[piv][i]) {
+        if float::magnitude(a[r][i]) > float::magnitude(a[piv][i]) {
             piv = r;
         }
     }
@@ -150,7 +136,7 @@ pub fn solve_normal(a: [[f64; 25]; 25], b: [f64; 25], order: usize) -> Solved
         let piv = pivot_row(m, order, i);
         m = exchange_rows(m, i, piv);
         right = exchange_values(right, i, piv);
-        if magnitude(m[i][i]) < 1e-9 {
+        if float::magnitude(m[i][i]) < 1e-9 {
             return unsolved(0);
         }
         m = eliminate_below(m, &mut right, i, order);

@@ -1,10 +1,10 @@
 -- `solve::back_substitute` meets its contract. The loop has done n of its turns. Assumes nothing.
 use mathlib.Core.Path.{_≡_}
 use Prim.Native.Nat.{_≤_, _-_}
+use borrow.Author.Needs.{needs}
 use Rattle.laws.specs.Loop.{loop}
 use Rattle.laws.proofs.Loop.{loop-starts, loop-turn, loop-ends}
 use Rattle.solve.specs.Elimination.{placed, substituted}
-use borrow.Author.Needs.{needs}
 use Rattle.solve.proofs.back_substitute.Statement.{statement}
 use Rattle.solve.proofs.back_substitute.Tie as tie
 

@@ -1,10 +1,10 @@
 -- `solve::eliminate_below` meets its contract. The rows below i up to r are cleared, and of row r the columns from i up to c. Assumes nothing.
 use mathlib.Core.Path.{_≡_, sym}
 use Prim.Native.Nat.{_+_, _≤_, _-_}
+use borrow.Author.Needs.{needs}
 use Rattle.laws.specs.Loop.{loop}
 use Rattle.laws.proofs.Loop.{loop-starts, loop-turn, loop-ends}
 use Rattle.solve.specs.Elimination.{System, cellLess, rowLess, rowCleared, cleared}
-use borrow.Author.Needs.{needs}
 use Rattle.solve.proofs.eliminate_below.Statement.{statement}
 use Rattle.solve.proofs.eliminate_below.Tie as tie
 

@@ -4,11 +4,11 @@ use mathlib.Core.Logic.{⊎-elim}
 use mathlib.Core.Path.{_≡_, _∙_}
 use Prim.Native.Nat.{_+_, _≤_, _<_, _-_}
 use native.Mathlib.Omega.{arith}
+use borrow.Author.Needs.{needs}
 use Rattle.laws.specs.Loop.{loop}
 use Rattle.laws.proofs.Loop.{loop-starts, loop-turn, loop-ends}
 use Rattle.solve.specs.Elimination.{larger, pivotOf}
-use Rattle.solve.proofs.Sign.{picked}
-use borrow.Author.Needs.{needs}
+use Rattle.solve.proofs.Column.{picked}
 use Rattle.solve.proofs.pivot_row.Statement.{statement}
 use Rattle.solve.proofs.pivot_row.Tie as tie
 

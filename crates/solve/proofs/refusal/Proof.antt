@@ -1,7 +1,6 @@
 -- `solve::refusal` meets its contract: the two tests answer the question. Assumes nothing.
 use borrow.Author.Tests.{le-leb, lt-leb}
 use Rattle.solve.specs.Answer.{refusalOf}
-use borrow.Author.Needs.{needs}
 use Rattle.solve.proofs.refusal.Statement.{statement}
 use Rattle.solve.proofs.refusal.Tie as tie
 

@@ -3,12 +3,12 @@ use mathlib.Core.Path.{_≡_, sym, _∙_, ap}
 use mathlib.Core.Bool.{Bool, true, false, cond}
 use Prim.Native.Nat.{_+_, _≤_, _-_}
 use lib.Ieee.{lt}
+use borrow.Author.Needs.{needs}
 use Rattle.laws.specs.Loop.{loop}
 use Rattle.laws.proofs.Loop.{loop-starts, loop-turn, loop-ends}
 use Rattle.solve.specs.Elimination.{limit, going, none, cleared, column}
 use Rattle.solve.proofs.Column.{column-is}
 use Rattle.solve.proofs.Answer.{order-fits, refused-is, none-is, found-is}
-use borrow.Author.Needs.{needs}
 use Rattle.solve.proofs.solve_normal.Statement.{statement}
 use Rattle.solve.proofs.solve_normal.Tie as tie
 

@@ -2,10 +2,10 @@
 use mathlib.Core.Path.{_≡_, ap}
 use Prim.Native.Nat.{_+_, _≤_, _-_}
 use lib.Ieee.{Float, binary64, div}
+use borrow.Author.Needs.{needs}
 use Rattle.laws.specs.Loop.{loop}
 use Rattle.laws.proofs.Loop.{loop-starts, loop-turn, loop-ends}
 use Rattle.solve.specs.Elimination.{value, knownLess, unknownOf}
-use borrow.Author.Needs.{needs}
 use Rattle.solve.proofs.unknown.Statement.{statement}
 use Rattle.solve.proofs.unknown.Tie as tie
 
