@@ -7,16 +7,14 @@ use native.Mathlib.Nat.{le-trans, lt-of-not-le, mul-comm, mul-le-mul-right, le-d
 use native.Mathlib.Decide.{decLe}
 use native.Mathlib.Omega.{arith}
 use mathlib.Core.Bool.{Bool, true, false, cond}
-use lib.IntN.{ℤ, pos, negsuc, negℤ, _+ℤ_, _-ℤ_, +ℤ-comm, +ℤ-negℤ-cancel, pos-+ℤ-pos}
-use lib.Signed.{ltZ}
-use lib.Dec.{T, ltb, lit<, lit≤}
+use lib.IntN.{ℤ, pos, negℤ, _+ℤ_, _-ℤ_, +ℤ-comm, +ℤ-negℤ-cancel, pos-+ℤ-pos}
+use lib.Dec.{T, lit<, lit≤}
 use lib.Ieee.{Float, nan, inf, fin, binary64, up, down, mul, fits, ofBits, toSigned}
 use lib.Ieee.Fits.{down-pos, mul-fits}
-use lib.Ieee.Exact.{HasValue}
 use borrow.Author.Tests.{lt-ltb, le-ltb}
 use Rattle.float.specs.Clamp.{clampOf}
 use Rattle.float.specs.Round.{halfUp, roundHalfAway}
-use Rattle.float.specs.Steps.{sixtyfour, quantAr}
+use Rattle.float.specs.Steps.{quantAr}
 use Rattle.float.specs.Coefficient.{times64, held, coefficient, Written}
 use Rattle.float.proofs.Units.{fit, times-exact, times-too-large}
 use Rattle.float.proofs.Cut.{side, signed-cut}

@@ -1,5 +1,5 @@
 -- A float to an integer, from any fraction a / c that the float equals: the quotient, held to the range. Assumes nothing.
-use mathlib.Core.Path.{_≡_, sym, ap, subst, _∙_}
+use mathlib.Core.Path.{_≡_, ap, _∙_}
 use Prim.Native.Nat.{ℕ, _-_, _*_, _/_, _^_, _<_, min}
 use mathlib.Core.Bool.{Bool, true, false, cond, true≢false}
 use lib.IntN.{ℤ, pos, negℤ}

@@ -5,24 +5,24 @@
 -- Assumes nothing.
 use mathlib.Core.Path.{_≡_, refl, sym, ap, _∙_, subst}
 use mathlib.Core.Logic.{_⊎_, inl, inr}
-use Prim.Native.Nat.{ℕ, zero, suc, _+_, _-_, _*_, _/_, _%_, _^_, _≤_, _<_}
-use native.Mathlib.Nat.{add-comm, le-antisymm, le-trans, le-of-eq, le-of-lt, le-of-suc-le-suc, lt-of-le-of-lt, lt-of-lt-of-le, lt-of-not-le, not-le-of-lt, mul-assoc, mul-comm, mul-left-comm, mul-mul-mul-comm, mul-le-mul, mul-le-mul-right, lt-of-mul-lt-mul-right, eq-of-mul-eq-mul-right, sub-add-cancel, add-mul, suc-mul, one-mul, pow-suc}
+use Prim.Native.Nat.{ℕ, suc, _+_, _-_, _*_, _/_, _%_, _^_, _≤_, _<_}
+use native.Mathlib.Nat.{add-comm, le-antisymm, le-trans, le-of-eq, le-of-lt, le-of-suc-le-suc, lt-of-le-of-lt, lt-of-lt-of-le, lt-of-not-le, not-le-of-lt, mul-assoc, mul-left-comm, mul-mul-mul-comm, mul-le-mul, mul-le-mul-right, lt-of-mul-lt-mul-right, eq-of-mul-eq-mul-right, sub-add-cancel, add-mul, suc-mul, one-mul}
 use native.Mathlib.Decide.{decLe}
 use native.Mathlib.Omega.{arith}
-use mathlib.Core.Bool.{true, false, true≢false}
+use mathlib.Core.Bool.{false}
 use lib.Dec.{T}
 use lib.Pow.{pow-add, pow-mono, shl-lt}
-use lib.Ieee.{Float, nan, inf, fin, binary64, up, down, fits}
+use lib.Ieee.{Float, nan, inf, fin, binary64, down, fits}
 use lib.Ieee.Fits.{down-pos}
 use lib.Ieee.Exact.{HasValue}
-use lib.Ieee.Positive.{num, den, den-pos, positive, value→cross}
+use lib.Ieee.Positive.{den, den-pos, positive, value→cross}
 use Rattle.float.specs.Root.{wholeRoot, rootOf, root, NearestRoot}
 use Rattle.float.proofs.WholeRoot.{square-suc}
 use Rattle.float.proofs.Units.{fit, zeros, units-of}
 use Rattle.float.proofs.root.Pattern.{pattern}
-use Rattle.float.proofs.root.Normal.{Normal, normal, even-part, odd-part, root-of-value}
+use Rattle.float.proofs.root.Normal.{normal, even-part, odd-part, root-of-value}
 use Rattle.float.proofs.root.Split.{Split, split, from-q, to-next, under-middle, over-middle}
-use Rattle.float.proofs.root.Rounded.{Rooted, stays, rises}
+use Rattle.float.proofs.root.Rounded.{stays, rises}
 use Rattle.float.proofs.root.Bits.{root-fits, root-value}
 
 -- ---- the numbers that an f64 holds, in units

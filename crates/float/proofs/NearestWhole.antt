@@ -3,8 +3,8 @@
 -- * From 2 ^ 53 on an f64 is whole already. Below, the number has 53 digits at most. So it is an f64, and rounding it to one changes nothing.
 -- Assumes nothing.
 use mathlib.Core.Path.{_≡_, refl, sym, ap, _∙_, subst}
-use Prim.Native.Nat.{ℕ, zero, suc, _+_, _-_, _*_, _/_, _%_, _^_, _≤_, _<_}
-use native.Mathlib.Nat.{le-of-suc-le-suc, add-mul, mul-add, mul-comm, mul-assoc, mul-left-comm, mul-one, one-mul, mul-pos, mul-le-mul-right, div-lt-iff-lt-mul, div-add-mod', mod-lt}
+use Prim.Native.Nat.{ℕ, suc, _+_, _-_, _*_, _/_, _%_, _^_, _≤_, _<_}
+use native.Mathlib.Nat.{le-of-suc-le-suc, add-mul, mul-comm, mul-assoc, mul-left-comm, mul-one, one-mul, mul-le-mul-right, div-lt-iff-lt-mul, div-add-mod', mod-lt}
 use native.Mathlib.Omega.{arith}
 use mathlib.Core.Bool.{Bool}
 use lib.IntN.{ℤ, pos, negsuc}

@@ -1,6 +1,6 @@
 -- An f64 is a whole number of the smallest f64, 2 ^ -1074: m × 2 ^ zeros of them, m below 2 ^ 53. Times a power of two it is exact, as long as it stays below 2 ^ 1024.
 -- Assumes nothing.
-use mathlib.Core.Path.{_≡_, refl, sym, ap, _∙_, subst}
+use mathlib.Core.Path.{_≡_, refl, sym, ap, _∙_}
 use Prim.Native.Nat.{ℕ, zero, suc, _+_, _-_, _*_, _/_, _%_, _^_, _≤_, _<_, compare}
 use native.Mathlib.Nat.{le-trans, le-of-suc-le-suc, lt-of-not-le, not-le-of-lt, lt-of-le-of-lt, lt-of-lt-of-le, le-of-eq, one-mul, mul-one, zero-mul, mul-assoc, mul-right-comm, mul-comm, mul-pos, mul-le-mul-right, le-of-mul-le-mul-right, le-div-iff-mul-le, mul-div-mul-right, mul-lt-mul-of-pos-right, lt-of-mul-lt-mul-right, sub-add-cancel, mul-div-cancel, pow-suc}
 use native.Mathlib.Omega.{arith}
@@ -8,9 +8,9 @@ use mathlib.Core.Bool.{Bool, true, false, _&&_}
 use lib.IntN.{ℤ, pos, negsuc}
 use lib.Dec.{T, eqb, ltb, leb, eqb→eq, leb→le, ltb→lt, lit<, lit≤}
 use lib.Pow.{pow-pos, pow-lt, pow-add, shl-lt}
-use lib.Ieee.{Float, inf, fin, binary64, up, down, size, units, round, mul, fits, unlike}
+use lib.Ieee.{inf, fin, binary64, up, down, size, units, round, mul, fits, unlike}
 use lib.Ieee.Digits.{size-le}
-use lib.Ieee.Fits.{up-pos, down-pos, and-l, and-r, round-is}
+use lib.Ieee.Fits.{down-pos, and-l, and-r, round-is}
 use lib.Ieee.Nearest.{closest, nearest-ge}
 use lib.Ieee.Exact.{HasValue, round-exact}
 use borrow.Author.Tests.{le-ltb}

@@ -2,7 +2,7 @@
 -- `twiceRoot n` lies to every even number 2b as n to b² (`twice-lt`, `twice-le`, `twice-ge`, `twice-gt`). Assumes nothing.
 use mathlib.Core.Path.{_≡_, refl, sym, ap, _∙_, subst}
 use mathlib.Core.Logic.{_⊎_, inl, inr}
-use Prim.Native.Nat.{ℕ, zero, suc, _+_, _-_, _*_, _/_, _^_, _≤_, _<_, zero-le}
+use Prim.Native.Nat.{ℕ, zero, suc, _+_, _*_, _/_, _^_, _≤_, _<_, zero-le}
 use native.Mathlib.Nat.{add-zero, le-trans, le-of-eq, le-antisymm, le-of-suc-le-suc, lt-of-lt-of-le, lt-of-le-of-lt, lt-of-not-le, not-le-of-lt, mul-comm, mul-mul-mul-comm, mul-le-mul, mul-le-mul-right, mul-suc, suc-mul, zero-lt-suc, div-mul-le-self, div-lt-iff-lt-mul, pow-suc, pow-le-pow-left}
 use native.Mathlib.Omega.{arith}
 use mathlib.Core.Bool.{Bool, true, false, not, cond}

@@ -2,11 +2,11 @@
 use mathlib.Core.Path.{_≡_, refl, sym, _∙_, ap}
 use mathlib.Core.Bool.{Bool, true, false, _&&_, _||_, Bool·beq}
 use Prim.Native.Nat.{ℕ, zero, suc, _+_, _*_, _<_}
-use native.Mathlib.Nat.{zero-mul, mul-one, mul-pos, zero-lt-suc}
+use native.Mathlib.Nat.{zero-mul, mul-pos, zero-lt-suc}
 use native.Mathlib.Omega.{arith}
 use lib.Dec.{ltb, eqb, eqb·suc-zero}
 use lib.Ieee.{Float, nan, inf, fin, binary64, up, down, lt, eq, ofBits}
-use lib.Ieee.Fits.{up-pos, down-pos}
+use lib.Ieee.Fits.{up-pos}
 use lib.Ieee.Positive.{above}
 use borrow.Author.Tests.{lt-ltb, le-ltb, ne-eqb}
 

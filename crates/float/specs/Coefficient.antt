@@ -1,7 +1,7 @@
 -- "The whole number nearest 64 times the float, halves away from zero, held to −128..127. NaN gives 0; infinities give the ends."
 use Prim.Native.Nat.{ℕ, _*_, _^_, _<_}
 use mathlib.Core.Path.{_≡_}
-use mathlib.Core.Bool.{Bool, true, false, cond}
+use mathlib.Core.Bool.{cond}
 use lib.IntN.{ℤ, pos, negℤ, _-ℤ_}
 use lib.Ieee.{Float, nan, inf, fin, up, down}
 use Rattle.float.specs.Clamp.{clampOf}

@@ -1,2 +1,15 @@
 pub mod Loop
 pub mod Table
+pub mod Whole
+pub mod Sums
+pub mod Is
+pub mod Finite
+pub mod Scaled
+pub mod Visit
+pub mod Sets
+pub mod Window
+pub mod FloatSums
+pub mod Law
+pub mod LoopLaw
+pub mod Limits
+pub mod SumCases

@@ -1,3 +1,11 @@
 pub mod Loop
 pub mod Table
 pub mod Cases
+pub mod Sums
+pub mod Scaled
+pub mod Window
+pub mod Sets
+pub mod FloatSums
+pub mod Law
+pub mod FrameLimit
+pub mod SumCases

@@ -1,5 +1,5 @@
 -- The bit pattern k × 2 ^ 52 + c is the f64 of c × 2 ^ k units of 2 ^ -1074, for a c of 53 digits (`from-bits`). Assumes nothing.
-use mathlib.Core.Path.{_≡_, refl, sym, ap, _∙_, subst}
+use mathlib.Core.Path.{_≡_, sym, ap, _∙_, subst}
 use Prim.Native.Nat.{ℕ, _+_, _-_, _*_, _/_, _^_, _≤_, _<_}
 use native.Mathlib.Nat.{le-trans, le-of-eq, lt-of-lt-of-le, mul-le-mul-right, mul-div-cancel}
 use native.Mathlib.Omega.{arith}

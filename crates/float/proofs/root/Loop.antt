@@ -2,9 +2,9 @@
 -- * A digit is 1 exactly if (2q + 1)², the square with it, is no more than the digits taken: 4q + 1 ≤ 4 rest + the next two (`one-digit`, `zero-digit`).
 -- * Where nothing is left the other digits are zeros (`ended`).
 -- Assumes nothing.
-use mathlib.Core.Path.{_≡_, refl, sym, ap, _∙_, subst}
+use mathlib.Core.Path.{_≡_, refl, sym, ap, _∙_}
 use Prim.Native.Nat.{ℕ, zero, suc, _+_, _-_, _*_, _/_, _%_, _^_, _≤_, _<_}
-use native.Mathlib.Nat.{add-zero, add-sub-of-le, mod-eq-of-lt, mul-assoc, mul-right-comm, mul-mul-mul-comm, mul-one, pow-suc}
+use native.Mathlib.Nat.{add-sub-of-le, mod-eq-of-lt, mul-assoc, mul-right-comm, mul-mul-mul-comm, mul-one, pow-suc}
 use native.Mathlib.Numerals.{add-one}
 use native.Mathlib.Omega.{arith}
 use lib.Pow.{pow-mono, pow-add, shl-lt}

@@ -1,19 +1,17 @@
 -- A finite f64 above zero is m × 2 ^ s / 2 ^ 2148 with an m of 53 digits (`normal`), and so n × 4 ^ h / 2 ^ 2148 with an n of 53 or 54 (`even-part`, `odd-part`).
 -- In units of 2 ^ -1074 it is c × 2 ^ k by its bit pattern, and a c with fewer than 53 digits is moved up. Assumes nothing.
 use mathlib.Core.Path.{_≡_, refl, sym, ap, _∙_, subst}
-use mathlib.Core.Logic.{_⊎_, inl, inr}
-use Prim.Native.Nat.{ℕ, zero, suc, _+_, _-_, _*_, _/_, _%_, _^_, _≤_, _<_}
-use native.Mathlib.Nat.{le-trans, le-of-eq, lt-of-lt-of-le, lt-of-le-of-lt, lt-of-not-le, not-le-of-lt, zero-lt-suc, mul-assoc, mul-comm, mul-one, mul-pos, mul-le-mul-right, mul-right-comm, mul-div-cancel, mul-lt-mul-of-pos-right, lt-of-mul-lt-mul-right, le-div-iff-mul-le, add-sub-of-le, sub-add-cancel, pow-suc}
+use Prim.Native.Nat.{ℕ, zero, suc, _+_, _-_, _*_, _/_, _%_, _^_, _≤_, _<_, zero-le}
+use native.Mathlib.Nat.{le-antisymm, le-of-suc-le-suc, le-trans, le-of-eq, lt-of-lt-of-le, lt-of-not-le, not-le-of-lt, mul-assoc, mul-one, mul-le-mul-right, mul-right-comm, mul-div-cancel, add-sub-of-le}
 use native.Mathlib.Decide.{decLe}
 use native.Mathlib.Omega.{arith}
 use mathlib.Core.Bool.{true, false}
 use lib.Dec.{T}
-use lib.Pow.{pow-pos, pow-mono, pow-add, shl-lt}
-use lib.Ieee.{Float, nan, inf, fin, binary64, up, down, size, fits, toBits}
+use lib.Pow.{pow-mono, pow-add, shl-lt}
+use lib.Ieee.{Float, nan, inf, fin, up, down, size}
 use lib.Ieee.Digits.{size-lt, size-le, size-reaches}
-use lib.Ieee.Fits.{down-pos}
 use lib.Ieee.Exact.{HasValue}
-use lib.Ieee.Positive.{positive}
+use lib.Ieee.Positive.{num, den, den-pos, positive, value→cross}
 use Rattle.float.specs.Root.{root, rootOf}
 use Rattle.float.proofs.root.Pattern.{Pattern}
 
@@ -28,13 +26,17 @@ scaled-up x p =
     subst (λ (a : ℕ). HasValue x false a (2 ^ 1074 * 2 ^ 1074)) (mul-assoc (p .c) (2 ^ p .k) (2 ^ 1074) ∙ ap (λ (y : ℕ). p .c * y) (sym (pow-add 2 (p .k) 1074)))
     (scaled x (p .c * 2 ^ p .k) (p .value))
 
-pub root-of-value : (x : Float) (n : ℕ) → T (positive x) → HasValue x false n (2 ^ 1074 * 2 ^ 1074) → root x ≡ rootOf n
+pub root-of-number : (x : Float) → T (positive x) → root x ≡ rootOf (num x * (2 ^ 1074 * 2 ^ 1074) / den x)
 unfolding root
-root-of-value nan n p v = absurd p
-root-of-value (inf s) n p v = absurd p
-root-of-value (fin true m e) n p v = absurd p
-root-of-value (fin false zero e) n p v = absurd p
-root-of-value (fin false (suc m) e) n p v = ap rootOf (ap (λ (x : ℕ). x / down e) (v .1) ∙ mul-div-cancel n (down-pos e))
+root-of-number nan p = absurd p
+root-of-number (inf s) p = absurd p
+root-of-number (fin true m e) p = absurd p
+root-of-number (fin false zero e) p = absurd p
+root-of-number (fin false (suc m) e) p = refl
+
+pub root-of-value : (x : Float) (n : ℕ) → T (positive x) → HasValue x false n (2 ^ 1074 * 2 ^ 1074) → root x ≡ rootOf n
+root-of-value x n p v =
+    root-of-number x p ∙ ap rootOf (ap (λ (y : ℕ). y / den x) (value→cross x n (2 ^ 1074 * 2 ^ 1074) v) ∙ mul-div-cancel n (den-pos x))
 
 pub moved : (m h s : ℕ) → h ≤ s → m * 2 ^ h * 2 ^ (s - h) ≡ m * 2 ^ s
 moved m h s l = mul-assoc m (2 ^ h) (2 ^ (s - h)) ∙ ap (λ (x : ℕ). m * x) (sym (pow-add 2 h (s - h)) ∙ ap (λ (x : ℕ). 2 ^ x) (add-sub-of-le l))
@@ -84,7 +86,7 @@ normal x p = go (decLe (2 ^ 52) (p .c))
         }
       where
         no-k : p .c < 2 ^ 52 → p .k ≡ 0
-        no-k l = native.Mathlib.Nat.le-antisymm (native.Mathlib.Nat.le-of-suc-le-suc (lt-of-not-le (λ (g : 1 ≤ p .k). not-le-of-lt l (p .lead g)))) Prim.Native.Nat.zero-le
+        no-k l = le-antisymm (le-of-suc-le-suc (lt-of-not-le (λ (g : 1 ≤ p .k). not-le-of-lt l (p .lead g)))) zero-le
 
         lead-of : (z : ℕ) → 0 < z → z ≤ 52 → 52 ≡ z - 1 + (53 - z)
         lead-of z a b = omega arith

@@ -7,7 +7,7 @@ use mathlib.Core.Bool.{true, false, true≢false}
 use lib.IntN.{ℤ}
 use lib.Dec.{T, ltb→lt}
 use lib.Pow.{pow-pos, pow-add, shl-lt}
-use lib.Ieee.{Float, nan, inf, fin, binary64, up, down, size, fits, toBits}
+use lib.Ieee.{Float, nan, inf, fin, binary64, down, size, fits, toBits}
 use lib.Ieee.Digits.{size-le, size-reaches}
 use lib.Ieee.Fits.{down-pos, kept-lt}
 use lib.Ieee.Exact.{HasValue}

@@ -3,19 +3,17 @@
 -- * The rest is above q exactly if the root is above the middle, which it never meets: then that number is q + 1, else q (`stays`, `rises`).
 -- Assumes nothing.
 use mathlib.Core.Path.{_≡_, refl, sym, ap, _∙_, subst}
-use mathlib.Core.Logic.{_⊎_, inl, inr}
-use Prim.Native.Nat.{ℕ, zero, suc, _+_, _-_, _*_, _/_, _%_, _^_, _≤_, _<_, compare, Ordering, Ordering·lt, Ordering·eq, Ordering·gt}
-use native.Mathlib.Nat.{le-trans, le-of-eq, le-of-lt, lt-of-le-of-lt, lt-of-lt-of-le, lt-of-not-le, not-le-of-lt, lt-irrefl, le-of-suc-le-suc, mul-comm, mul-assoc, mul-left-comm, mul-mul-mul-comm, mul-le-mul-right, mul-lt-mul-of-pos-right, mul-pos, add-mul, suc-mul, one-mul, div-add-mod', div-eq-of-lt-le, mul-div-mul-right, mul-div-cancel, add-sub-of-le, pow-suc}
-use native.Mathlib.Decide.{decLe}
+use Prim.Native.Nat.{ℕ, suc, _+_, _-_, _*_, _/_, _%_, _^_, _≤_, _<_, compare, Ordering, Ordering·lt, Ordering·eq, Ordering·gt}
+use native.Mathlib.Nat.{le-trans, le-of-eq, le-of-lt, lt-of-lt-of-le, lt-of-not-le, not-le-of-lt, lt-irrefl, mul-comm, mul-assoc, mul-left-comm, mul-le-mul-right, mul-pos, add-mul, suc-mul, one-mul, div-add-mod', div-eq-of-lt-le, mul-div-mul-right}
 use native.Mathlib.Omega.{arith}
-use mathlib.Core.Bool.{Bool, true, false, not}
+use mathlib.Core.Bool.{false, not}
 use lib.Dec.{T, isLe, isEq, leb→le, nleb→lt, eqb→eq, lit<}
-use lib.Pow.{pow-pos, pow-add, pow-mono, shl-lt}
-use lib.Ieee.{Float, binary64, size, nearest, units, round}
+use lib.Pow.{pow-pos, pow-add, pow-mono}
+use lib.Ieee.{binary64, size, nearest, units}
 use lib.Ieee.Digits.{size-lt, size-le}
 use lib.Ieee.Fits.{round-is}
 use lib.Ieee.Nearest.{closest, closest-same}
-use Rattle.float.specs.Root.{wholeRoot, twiceRoot, rootOf}
+use Rattle.float.specs.Root.{twiceRoot, rootOf}
 use Rattle.float.proofs.WholeRoot.{twice-lt, twice-ge, twice-gt}
 use Rattle.float.proofs.root.Split.{Split, from-q, to-next, under-middle, over-middle}
 

@@ -1,12 +1,12 @@
 -- `float::cast::as_u64` meets its contract: the cut is taken between the ends of the range, and outside of it `toUnsigned` is an end. Assumes nothing.
-use mathlib.Core.Path.{_≡_, refl, sym, ap, subst, _∙_}
+use mathlib.Core.Path.{_≡_, refl, sym, subst}
 use mathlib.Core.Bool.{true, false}
-use Prim.Native.Nat.{ℕ, _+_, _-_, _*_, _/_, _^_, _≤_, _<_, min}
-use native.Mathlib.Nat.{le-div-iff-mul-le, mul-pos}
+use Prim.Native.Nat.{ℕ, _+_, _-_, _*_, _/_, _^_, _≤_, min}
+use native.Mathlib.Nat.{le-div-iff-mul-le}
 use native.Mathlib.Omega.{arith}
 use lib.Dec.{T}
 use lib.IntN.{pos}
-use lib.Ieee.{Float, nan, inf, fin, binary64, up, down, neg, lt, ofBits, toUnsigned}
+use lib.Ieee.{Float, nan, inf, fin, up, down, neg, lt, ofBits, toUnsigned}
 use lib.Ieee.Fits.{down-pos}
 use borrow.Author.Needs.{needs}
 use borrow.Author.Tests.{ltb-false}

@@ -1,5 +1,5 @@
 -- `float::quant::quant_ar` meets its contract: the steps are the calls' results in turn. Assumes nothing.
-use mathlib.Core.Path.{_≡_, ap, _∙_}
+use mathlib.Core.Path.{ap, _∙_}
 use lib.IntN.{ℤ, pos, negℤ}
 use lib.Ieee.{toSigned}
 use mir.Syntax.{w32}

@@ -1,6 +1,6 @@
 -- `float::root::leading` meets its contract. The invariant: n is m × 2 ^ h, with 53 digits at most. The measure is what n lacks of 2 ^ 53. Assumes nothing.
 use mathlib.Core.Path.{_≡_, sym, ap, _∙_}
-use Prim.Native.Nat.{ℕ, suc, _+_, _-_, _*_, _^_, _≤_, _<_}
+use Prim.Native.Nat.{ℕ, _+_, _-_, _*_, _^_, _≤_, _<_}
 use native.Mathlib.Nat.{le-trans, le-of-eq, lt-of-not-le, not-le-of-lt, mul-assoc, mul-one, one-mul, mul-le-mul-right, pow-suc}
 use native.Mathlib.Numerals.{add-one}
 use native.Mathlib.Omega.{arith}

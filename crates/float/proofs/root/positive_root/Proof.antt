@@ -1,5 +1,5 @@
 -- `float::root::positive_root` meets its contract: x is n × 4 ^ s / 2 ^ 2148 by the first two calls, and the digits and the rest of the third say how its root rounds. Assumes nothing.
-use mathlib.Core.Path.{_≡_, sym, ap, subst, _∙_}
+use mathlib.Core.Path.{_≡_, sym, subst, _∙_}
 use Prim.Native.Nat.{ℕ, _+_, _-_, _*_, _^_, _≤_, _<_}
 use native.Mathlib.Numerals.{add-one}
 use native.Mathlib.Omega.{arith}

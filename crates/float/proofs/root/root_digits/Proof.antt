@@ -64,10 +64,8 @@ loop-again c =
     let m = c .before .before .before .before .args .m in
     let i = l .i in
     ⊎-elim
-    (λ w. subst (λ (q : ℕ). State m q (c .if2 .rest) (l .left % 2 ^ 52 * 4) (i + 1)) (sym (w .1)) (subst (λ (r : ℕ). State m (l .q * 2 + 1) r (l .left % 2 ^ 52 * 4) (i + 1)) (sym (w .2))
-    (one-digit m (l .q) (l .rest) (l .left) i (l .inv) (c .before .before .loop-test .taken) (w .0 .taken))))
-    (λ w. subst (λ (q : ℕ). State m q (c .if2 .rest) (l .left % 2 ^ 52 * 4) (i + 1)) (sym (w .1)) (subst (λ (r : ℕ). State m (l .q * 2) r (l .left % 2 ^ 52 * 4) (i + 1)) (sym (w .2))
-    (zero-digit m (l .q) (l .rest) (l .left) i (l .inv) (c .before .before .loop-test .taken) (w .0 .left))))
+    (λ w. rw (w .1, w .2) (one-digit m (l .q) (l .rest) (l .left) i (l .inv) (c .before .before .loop-test .taken) (w .0 .taken)))
+    (λ w. rw (w .1, w .2) (zero-digit m (l .q) (l .rest) (l .left) i (l .inv) (c .before .before .loop-test .taken) (w .0 .left)))
     (c .if2 .came)
 
 returns-2 : tie.Need-returns-2 Inv-loop μ-loop

@@ -1,10 +1,10 @@
 -- `float::root::sqrt` meets its contract: the tests part the finite numbers above zero from what `root` gives by its cases. Assumes nothing.
-use mathlib.Core.Path.{_≡_, refl, sym, ap, _∙_, subst}
-use Prim.Native.Nat.{ℕ, zero, suc}
+use mathlib.Core.Path.{_≡_, refl, sym, _∙_, subst}
+use Prim.Native.Nat.{zero, suc}
 use native.Mathlib.Omega.{arith}
 use mathlib.Core.Bool.{true, false}
 use lib.Dec.{T}
-use lib.Ieee.{Float, nan, inf, fin, binary64, lt, div, ofBits}
+use lib.Ieee.{Float, nan, inf, fin, lt, div, ofBits}
 use lib.Ieee.Positive.{positive, above}
 use borrow.Author.Needs.{needs}
 use borrow.Author.Tests.{ltb-false, eqb-true}

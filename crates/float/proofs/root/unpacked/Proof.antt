@@ -1,7 +1,7 @@
 -- `float::root::unpacked` meets its contract: the fields of the bit pattern k × 2 ^ 52 + c are k + 1 and c less its leading digit, or 0 and c. Assumes nothing.
 use mathlib.Core.Path.{_≡_, sym, ap, subst, _∙_}
 use mathlib.Core.Logic.{inl, inr}
-use Prim.Native.Nat.{ℕ, _+_, _-_, _*_, _/_, _%_, _^_, _≤_, _<_}
+use Prim.Native.Nat.{ℕ, _+_, _*_, _/_, _%_, _^_, _≤_}
 use native.Mathlib.Nat.{eq-zero-or-pos, mul-one}
 use native.Mathlib.Omega.{arith}
 use mathlib.Core.Bool.{not, false}

@@ -3,14 +3,14 @@
 -- * From 2 ^ 52 on x is a whole number, its own nearest (`whole-already`).
 -- Assumes nothing.
 use mathlib.Core.Path.{_≡_, refl, sym, ap, _∙_, subst}
-use Prim.Native.Nat.{ℕ, suc, _+_, _-_, _*_, _/_, _^_, _≤_, _<_, min}
+use Prim.Native.Nat.{ℕ, suc, _+_, _-_, _*_, _/_, _^_, _<_, min}
 use native.Mathlib.Nat.{lt-of-lt-of-le, mul-comm, mul-le-mul-right, add-div-right, div-div-eq-div-mul, div-lt-iff-lt-mul, pow-suc}
 use native.Mathlib.Omega.{arith}
 use mathlib.Core.Bool.{true, false}
 use lib.IntN.{ℤ, pos, negsuc}
 use lib.Dec.{T, le→leb, lit≤}
 use lib.Pow.{pow-pos}
-use lib.Ieee.{Float, nan, inf, fin, binary64, up, down, mul, lt, fits, inFloat, ofInt, ofBits, toUnsigned}
+use lib.Ieee.{Float, nan, inf, fin, binary64, up, down, round, mul, lt, fits, inFloat, ofInt, ofBits, toUnsigned}
 use lib.Ieee.Fits.{down-pos}
 use lib.Ieee.Positive.{above}
 use borrow.Author.Needs.{needs}
@@ -41,7 +41,7 @@ below m e f h =
     let few : v * 2 / d < 2 ^ 53 = div-lt-iff-lt-mul D .1 twice in
     let cut : toUnsigned 64 (mul binary64 (fin false m e) (fin false 1 (pos 1))) ≡ v * 2 / d =
     unsigned-cut 64 _ (v * 2) d D (times-exact 1 false m e f (lt-of-lt-of-le twice (mul-le-mul-right d (lit≤ tt)))) ∙ held (v * 2 / d) few in
-    rw cut (few, ap (λ (k : ℕ). lib.Ieee.round binary64 false k 1) (half-of v d D))
+    rw cut (few, ap (λ (k : ℕ). round binary64 false k 1) (half-of v d D))
   where
     held : (q : ℕ) → q < 2 ^ 53 → min q (2 ^ 64 - 1) ≡ q
     held q l = omega arith

@@ -1,12 +1,11 @@
 -- `float::rounding::round` meets its contract. Rounding a fraction with the other sign gives the negative, so a number below zero is rounded through its negative; a zero stays. Assumes nothing.
 use mathlib.Core.Path.{_≡_, refl, sym, ap, _∙_, subst}
 use Prim.Native.Nat.{ℕ, zero, suc, _*_, _^_}
-use native.Mathlib.Nat.{zero-lt-suc, zero-mul}
+use native.Mathlib.Nat.{zero-mul}
 use native.Mathlib.Omega.{arith}
 use mathlib.Core.Bool.{Bool, true, false, not, cond}
-use lib.IntN.{ℤ, pos}
 use lib.Dec.{T, ltb}
-use lib.Ieee.{Float, nan, inf, fin, Format, binary64, low, emax, prec, up, down, neg, odd, units, round, fits}
+use lib.Ieee.{Float, nan, inf, fin, binary64, up, down, neg, odd, units, round, fits}
 use lib.Ieee.Fits.{round-is}
 use lib.Ieee.Positive.{above}
 use borrow.Author.Needs.{needs}

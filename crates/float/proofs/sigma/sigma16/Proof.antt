@@ -1,9 +1,7 @@
 -- `float::sigma::sigma16` meets its contract: the steps are the calls' results in turn. Assumes nothing.
-use mathlib.Core.Path.{_≡_, sym, ap, _∙_}
+use mathlib.Core.Path.{_≡_, ap, _∙_}
 use Prim.Native.Nat.{ℕ}
-use mathlib.Core.Bool.{Bool, true, false, cond}
 use lib.IntN.{pos}
-use lib.Dec.{eqb}
 use lib.Ieee.{Float, binary64, mul, div, ofInt, toUnsigned}
 use borrow.Author.Needs.{needs}
 use borrow.Author.Tests.{eq-eqb, ne-eqb}

@@ -1,13 +1,11 @@
 -- `float::sign::magnitude` meets its contract, by cases of the float under each test's outcome. Assumes nothing.
 use mathlib.Core.Path.{_≡_, refl, sym, ap, subst, _∙_}
 use mathlib.Core.Bool.{true, false}
-use Prim.Native.Nat.{ℕ, zero, suc}
-use native.Mathlib.Nat.{zero-lt-suc}
+use Prim.Native.Nat.{zero, suc}
 use native.Mathlib.Omega.{arith}
 use lib.Dec.{T}
-use lib.IntN.{ℤ}
 use lib.Ieee.{Float, nan, inf, fin, binary64, neg, fits, ofBits}
-use borrow.Author.Tests.{ltb-false, eqb-false, eqb-true}
+use borrow.Author.Tests.{ltb-false, eqb-true}
 use Rattle.float.specs.Magnitude.{magnitudeOf}
 use Rattle.float.proofs.Units.{zero-exponent}
 use Rattle.float.proofs.Zero.{zeroF, under, null, lt-zero, eq-zero}
