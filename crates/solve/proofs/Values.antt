@@ -6,9 +6,10 @@ use native.Mathlib.Omega.{arith}
 use lib.ListN.{length, replicate, length-set, length-replicate, getD-replicate}
 use lib.Seq.{getD-set-other}
 use lib.Ieee.{nan}
+use Rattle.laws.specs.Scaled.{plusZero}
 use Rattle.frame.specs.Questions.{accepted}
 use Rattle.solve.specs.declared.Solved.{Solved}
-use Rattle.solve.specs.Elimination.{Row, Matrix, System, Stage, going, none, value, plusZero, placed, substituted}
+use Rattle.solve.specs.Elimination.{Row, Matrix, System, Stage, going, none, value, placed, substituted}
 use Rattle.solve.specs.Answer.{refusalOf, unsolvedOf, answerOf, solvedOf}
 use Rattle.solve.proofs.Together.{loops-together}
 

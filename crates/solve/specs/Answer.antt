@@ -3,8 +3,9 @@ use mathlib.Core.Bool.{true, false}
 use mathlib.Core.List.{[], _∷_}
 use Prim.Native.Nat.{ℕ}
 use lib.ListN.{replicate}
+use Rattle.laws.specs.Scaled.{plusZero}
 use Rattle.frame.specs.Questions.{orderKnown, firstNo, accepted}
-use Rattle.solve.specs.Elimination.{Row, Matrix, Stage, going, none, plusZero, eliminated, substituted}
+use Rattle.solve.specs.Elimination.{Row, Matrix, Stage, going, none, eliminated, substituted}
 use Rattle.solve.specs.declared.Solved.{Solved}
 
 -- the question put to the call

@@ -6,7 +6,8 @@ use lib.IntN.{pos}
 use lib.ListN.{length, replicate}
 use lib.Ieee.{Float, nan, neg, binary64, ofBits, ofInt}
 use Rattle.laws.specs.Cases.{Case}
-use Rattle.solve.specs.Elimination.{Row, Matrix, plusZero, limit}
+use Rattle.laws.specs.Scaled.{plusZero}
+use Rattle.solve.specs.Elimination.{Row, Matrix, limit}
 use Rattle.solve.specs.Answer.{unsolvedOf, solvedOf}
 use Rattle.solve.specs.declared.Solved.{Solved}
 

@@ -6,6 +6,7 @@ use Prim.Native.Nat.{ℕ, _+_, _-_}
 use lib.ListN.{getD, set, replicate}
 use lib.Ieee.{Float, nan, binary64, sub, mul, div, lt, ofBits}
 use Rattle.laws.specs.Loop.{loop}
+use Rattle.laws.specs.Scaled.{plusZero}
 use Rattle.float.specs.Magnitude.{magnitudeOf}
 
 abbrev pub Row : Type 0
@@ -33,10 +34,6 @@ stored a r c x = set a r (set (getD a r []) c x)
 -- x - f * y: the product is rounded, and then the difference
 abbrev pub less : Float → Float → Float → Float
 less x f y = sub binary64 x (mul binary64 f y)
-
--- 0.0
-abbrev pub plusZero : Float
-plusZero = ofBits binary64 0
 
 -- 1e-9
 abbrev pub limit : Float

@@ -6,11 +6,13 @@ ghost use lib.Ieee.{nan};
 ghost use Rattle.solve.specs.Elimination.{System, pivotOf, swapped, cleared, unknownOf, substituted};
 ghost use Rattle.solve.specs.Answer.{refusalOf, unsolvedOf, solvedOf};
 
+// A count with 25 values; the unused ones are plus zero.
 pub struct Solution {
     pub order: usize,
     pub values: [f64; 25],
 }
 
+// A refusal's number; whether there is a solution, and the solution.
 pub struct Solved {
     pub refusal: u32,
     pub found: bool,
@@ -71,7 +73,7 @@ fn eliminate_below(a: [[f64; 25]; 25], b: &mut [f64; 25], i: usize, order: usize
     m
 }
 
-// x[i] = (v - Σ row[j] × x[j] over j above i) / row[i]
+// x[i] = (right - Σ row[j] × x[j], over j above i) / row[i].
 fn unknown(row: [f64; 25], right: f64, x: [f64; 25], i: usize, order: usize) -> f64
     requires { ⌜ (i < order) × (order ≤ 25) ⌝ }
     ensures { λ r. ⌜ r ≡ unknownOf order row right x i ⌝ }
@@ -122,7 +124,7 @@ fn unsolved(refusal: u32) -> Solved
     }
 }
 
-// x with a x = b, of the first `order` equations.
+// x with a × x = b, of the first `order` equations.
 pub fn solve_normal(a: [[f64; 25]; 25], b: [f64; 25], order: usize) -> Solved
     ensures { λ r. ⌜ r ≡ solvedOf a b order ⌝ }
 {
