@@ -3,3 +3,5 @@ pub mod Table
 pub mod Whole
 pub mod Sums
 pub mod Is
+pub mod Finite
+pub mod Scaled
