@@ -5,3 +5,10 @@ pub mod Sums
 pub mod Is
 pub mod Finite
 pub mod Scaled
+pub mod Visit
+pub mod Sets
+pub mod Window
+pub mod FloatSums
+pub mod Law
+pub mod LoopLaw
+pub mod Limits

@@ -1,4 +1,5 @@
--- A counting loop as a function on its state.
+-- A loop as a function on its state.
+use mathlib.Core.List.{List, [], _∷_}
 use Prim.Native.Nat.{ℕ, zero, suc, _+_, _-_}
 
 -- the state s after n turns of f, the first of which has the number a
@@ -10,3 +11,8 @@ turns f a (suc n) s = f (a + n) (turns f a n s)
 unfoldable pub loop : {S : Type 0} → ℕ → ℕ → (ℕ → S → S) → S → S
 unfolding turns
 loop a b f s = turns f a (b - a) s
+
+-- `for x in xs { s = f(x, s); }`
+unfoldable pub visit : {A S : Type 0} → (A → S → S) → List A → S → S
+visit f [] s = s
+visit f (x ∷ xs) s = visit f xs (f x s)

@@ -1,0 +1,53 @@
+-- "Demand 3 is a single claim about any product, set and order": the premise, for any limit whose sums f64 holds exactly, and the claim.
+use mathlib.Core.Path.{_≡_}
+use mathlib.Core.List.{List, _++_, map}
+use Prim.Native.Nat.{ℕ, _*_, _^_, _≤_}
+use lib.IntN.{ℤ, pos, natAbs}
+use lib.ListN.{length}
+use lib.Ieee.{Float, binary64, add}
+use Rattle.laws.specs.Sums.{sumZ}
+use Rattle.laws.specs.Scaled.{ofScaled, Holds}
+use Rattle.laws.specs.Sets.{In, NoDup, Within, Same, Apart}
+use Rattle.laws.specs.FloatSums.{plusZero, sumF}
+
+-- ---- the premise
+-- Products are whole numbers of 2 ^ scale-ths, each at most `size` of them, at no more than `count` positions.
+pub record Limit : Type 0 where
+  pub scale : ℕ
+  pub count : ℕ
+  pub size : ℕ
+
+-- f64 holds every such sum: up to 2 ^ 53 of its parts, none finer than its finest
+pub record Held (L : Limit) : Type 0 where
+  pub fine : L .scale ≤ 1074
+  pub room : L .count * L .size ≤ 2 ^ 53
+
+-- a product within a limit, or a factor of one: at each of its positions a float f, which is exactly g of the 2 ^ scale-ths
+pub record Product (L : Limit) {A : Type 0} (all : List A) (f : A → Float) (g : A → ℤ) : Type 0 where
+  pub few : length all ≤ L .count
+  pub small : (p : A) → In p all → natAbs (g p) ≤ L .size
+  pub holds : (p : A) → In p all → Holds (L .scale) (g p) (f p)
+
+-- a set of its positions, in some order
+pub record Positions {A : Type 0} (all ps : List A) : Type 0 where
+  pub once : NoDup ps
+  pub inside : Within ps all
+
+-- ---- the claim, of any set of its positions in any order
+pub record ExactSums (L : Limit) {A : Type 0} (all : List A) (f : A → Float) (g : A → ℤ) : Type 0 where
+  -- the f64 sum is the exact sum, as an f64; finite, and exactly that; plus zero where that is 0, so also over no positions
+  pub exact : (ps : List A) → Positions all ps → sumF (map f ps) ≡ ofScaled (L .scale) (sumZ (map g ps))
+  pub exact-value : (ps : List A) → Positions all ps → Holds (L .scale) (sumZ (map g ps)) (sumF (map f ps))
+  pub exact-zero : (ps : List A) → Positions all ps → sumZ (map g ps) ≡ pos 0 → sumF (map f ps) ≡ plusZero
+  -- one set in two orders has one sum
+  pub any-order : (ps qs : List A) → Positions all ps → Positions all qs → Same ps qs → sumF (map f ps) ≡ sumF (map f qs)
+  -- the sum over two parts together, in any order, is the sums over the parts, added
+  pub parts : (ps qs us : List A) → Positions all ps → Positions all qs → Positions all us → Apart ps qs → Same us (ps ++ qs)
+      → sumF (map f us) ≡ add binary64 (sumF (map f ps)) (sumF (map f qs))
+
+-- ---- document 01's limits: 4,096 × 4,096 places; a factor, which is a noise or an average of noises of samples below 2 ^ 12, in quarters; two factors multiplied, in sixteenths
+abbrev pub factorLimit : Limit
+factorLimit = record { scale = 2; count = 2 ^ 24; size = 2 ^ 14 }
+
+abbrev pub frameLimit : Limit
+frameLimit = record { scale = 4; count = 2 ^ 24; size = 2 ^ 28 }
