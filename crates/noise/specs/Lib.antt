@@ -1,2 +1,4 @@
 pub mod Noise
 pub mod Average
+pub mod Products
+pub mod Claim
