@@ -37,8 +37,8 @@ in-all false true n m h = omega arith
 in-all false false n m h = omega arith
 
 -- a whole number over 2 ^ j, in quarters
-in-quarters : (j : ℕ) (z : ℤ) (x y : Float) → j ≤ 2 → natAbs z ≤ 2 ^ 53 → x ≡ ofScaled 0 z → HasValue y false (2 ^ j) 1 → Holds 2 (z *ℤ pos (2 ^ (2 - j))) (div binary64 x y)
-in-quarters j z x y l b e v =
+over-power : (j : ℕ) (z : ℤ) (x y : Float) → j ≤ 2 → natAbs z ≤ 2 ^ 53 → x ≡ ofScaled 0 z → HasValue y false (2 ^ j) 1 → Holds 2 (z *ℤ pos (2 ^ (2 - j))) (div binary64 x y)
+over-power j z x y l b e v =
     let d : div binary64 x y ≡ ofScaled j z = ap (λ (t : Float). div binary64 t y) e ∙ div-scaled 0 j z y b (lit≤ tt) v ∙ ap (λ (k : ℕ). ofScaled k z) (zero-add j) in
     let s : j + (2 - j) ≡ 2 = omega arith in
     subst (λ (k : ℕ). Holds k (z *ℤ pos (2 ^ (2 - j))) (div binary64 x y)) s
@@ -67,7 +67,7 @@ module _ (luma : Luma) (r c top : ℕ) (room : 4 * top ≤ 2 ^ 53)
   average-exact =
       let v = visits (leb (luma .format) 2) (leb (luma .format) 1) in (
         le-trans (le-of-eq (abs-mul total (pos (2 ^ (2 - (subX (luma .format) + subY (luma .format))))))) (total-le .1),
-        in-quarters (subX (luma .format) + subY (luma .format)) total _ _ (v .1) (le-trans (total-le .0) room)
+        over-power (subX (luma .format) + subY (luma .format)) total _ _ (v .1) (le-trans (total-le .0) room)
             (window-exact (record { scale = 0; count = 4; size = top }) (record { fine = lit≤ tt; room = room }) 0 (subY (luma .format) + 1) 0 (subX (luma .format) + 1)
             (λ i j. noiseF (luma .source) (luma .denoised) (lumaPlace luma r c i j)) lumaNoise (v .0) (λ i j k l m n. one-exact i j .0) (λ i j k l m n. one-exact i j .1)
             ∙ ap (ofScaled 0) (sum-grid lumaNoise (subY (luma .format) + 1) (subX (luma .format) + 1)))

@@ -2,19 +2,17 @@
 use mathlib.Core.Path.{_≡_, subst}
 use mathlib.Core.Bool.{Bool, true, false, cond}
 use Prim.Native.Nat.{ℕ, _+_, _-_, _*_, _/_, _^_, _<_, _≤_, min}
-use native.Mathlib.Nat.{le-trans, le-of-eq, le-refl, mul-comm}
+use native.Mathlib.Nat.{one-mul, mul-comm}
 use native.Mathlib.Omega.{arith}
 use lib.Arith.{digits-lt}
 use lib.Dec.{ltb→lt, eqb, leb}
 use lib.IntN.{ℤ, pos, negsuc, natAbs, _+ℤ_}
 use Rattle.laws.specs.Window.{Place}
 use Rattle.laws.specs.Scaled.{Holds}
-use Rattle.laws.proofs.Whole.{abs-mul-le}
-use Rattle.laws.proofs.Scaled.{holds-finer}
 use Rattle.frame.specs.Size.{chromaWidth, chromaHeight}
 use Rattle.noise.specs.Noise.{place}
-use Rattle.noise.specs.Average.{Luma, lumaPlace}
-use Rattle.noise.specs.Products.{Pair, Factor, noiseAt, average, Inside, Exists, reached, floatAt, whole, inQuarters}
+use Rattle.noise.specs.Average.{Luma, lumaPlace, quarters}
+use Rattle.noise.specs.Products.{Pair, Factor, noiseAt, average, Inside, Exists, reached, floatAt, whole}
 use Rattle.noise.specs.Claim.{Limited}
 use Rattle.noise.proofs.Noise.{noise-exact}
 use Rattle.noise.proofs.Average.{average-exact}
@@ -44,18 +42,21 @@ luma-lt luma p h i j =
     place-lt (luma .width) (luma .height) _ _
     (held (eqb (luma .format) 0) (eqb (luma .format) 1) (luma .height) (p .0) _ (h .0)) (held (eqb (luma .format) 0) (leb (luma .format) 2) (luma .width) (p .1) _ (h .1))
 
--- ---- in f64
-module _ (limit top : ℕ) where
-  pub whole-exact : (plane : Pair) (dr dc : ℤ) (p : Place) → Limited limit top (noiseAt plane dr dc) → Exists (noiseAt plane dr dc) p → top ≤ 2 ^ 53
-      → (natAbs (whole plane dr dc p) ≤ top) × Holds 0 (whole plane dr dc p) (floatAt (noiseAt plane dr dc) p)
-  whole-exact plane dr dc p S e room =
-      noise-exact (plane .source) (plane .denoised) (reached plane dr dc p) top
-      (S .lowSource (reached plane dr dc p) (reached-lt plane dr dc p e)) (S .lowDenoised (reached plane dr dc p) (reached-lt plane dr dc p e)) room
+-- ---- in f64: a noise is a whole number of ones, an average one of quarters
+abbrev pub fine : Factor → ℕ
+fine (noiseAt plane dr dc) = 0
+fine (average luma) = 2
 
-  pub quarters-exact : (u : Factor) (p : Place) → Limited limit top u → Exists u p → 4 * top ≤ 2 ^ 53 → (natAbs (inQuarters u p) ≤ 4 * top) × Holds 2 (inQuarters u p) (floatAt u p)
-  quarters-exact (noiseAt plane dr dc) p S e room =
-      let h = whole-exact plane dr dc p S e (omega arith) in
-      (le-trans (abs-mul-le (whole plane dr dc p) (pos 4) top 4 (h .0) (le-refl 4)) (le-of-eq (mul-comm top 4)), holds-finer 0 2 (whole plane dr dc p) (floatAt (noiseAt plane dr dc) p) (h .1))
-  quarters-exact (average luma) p S e room =
-      average-exact luma (p .0) (p .1) top room
-      (λ i j. S .lowSource (lumaPlace luma (p .0) (p .1) i j) (luma-lt luma p e i j)) (λ i j. S .lowDenoised (lumaPlace luma (p .0) (p .1) i j) (luma-lt luma p e i j))
+abbrev pub parts : Factor → Place → ℤ
+parts (noiseAt plane dr dc) p = whole plane dr dc p
+parts (average luma) p = quarters luma (p .0) (p .1)
+
+pub factor-exact : (limit top : ℕ) (u : Factor) (p : Place) → Limited limit top u → Exists u p → 2 ^ fine u * top ≤ 2 ^ 53
+    → (natAbs (parts u p) ≤ 2 ^ fine u * top) × Holds (fine u) (parts u p) (floatAt u p)
+factor-exact limit top (noiseAt plane dr dc) p S e room =
+    let q : 1 * top ≡ top = one-mul top in
+    rw q (noise-exact (plane .source) (plane .denoised) (reached plane dr dc p) top
+    (S .lowSource (reached plane dr dc p) (reached-lt plane dr dc p e)) (S .lowDenoised (reached plane dr dc p) (reached-lt plane dr dc p e)) (rw q at room))
+factor-exact limit top (average luma) p S e room =
+    average-exact luma (p .0) (p .1) top room
+    (λ i j. S .lowSource (lumaPlace luma (p .0) (p .1) i j) (luma-lt luma p e i j)) (λ i j. S .lowDenoised (lumaPlace luma (p .0) (p .1) i j) (luma-lt luma p e i j))

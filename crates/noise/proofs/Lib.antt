@@ -1,6 +1,10 @@
 pub mod Grid
+pub mod Loops
 pub mod Noise
 pub mod Average
 pub mod Factors
 pub mod Count
 pub mod Products
+pub mod Steps
+pub mod FitWindow
+pub mod Cases

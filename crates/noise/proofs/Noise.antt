@@ -4,7 +4,7 @@ use mathlib.Core.List.{List}
 use Prim.Native.Nat.{ℕ, _^_, _<_, _≤_}
 use native.Mathlib.Nat.{le-trans, le-of-lt}
 use lib.Dec.{lit≤}
-use lib.IntN.{ℤ, pos, natAbs}
+use lib.IntN.{pos, natAbs}
 use lib.ListN.{getD}
 use lib.Ieee.{Float, binary64, sub, ofInt}
 use Rattle.laws.specs.Scaled.{ofScaled, Holds}

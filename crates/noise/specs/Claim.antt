@@ -19,7 +19,14 @@ abbrev pub Limited : ℕ → ℕ → Factor → Type 0
 Limited limit top (noiseAt plane dr dc) = Samples limit top (plane .source) (plane .denoised) (plane .width * plane .height)
 Limited limit top (average luma) = Samples limit top (luma .source) (luma .denoised) (luma .width * luma .height)
 
--- then no product is above top × top, and there are no more of them than samples
+-- document 01's frames
+abbrev pub frameSamples : ℕ
+frameSamples = 4096 * 4096
+
+abbrev pub frameTop : ℕ
+frameTop = 2 ^ 12
+
+-- no product is above top × top, and there are no more of them than samples
 abbrev pub limitOf : ℕ → ℕ → Factor → Factor → Limit
 limitOf limit top u v = record { scale = scale u v; count = limit; size = 2 ^ scale u v * (top * top) }
 

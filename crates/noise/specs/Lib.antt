@@ -2,3 +2,5 @@ pub mod Noise
 pub mod Average
 pub mod Products
 pub mod Claim
+pub mod Steps
+pub mod Cases

@@ -53,15 +53,11 @@ productF u v p = mul binary64 (floatAt u p) (floatAt v p)
 abbrev pub whole : Pair → ℤ → ℤ → Place → ℤ
 whole plane dr dc p = noise (plane .source) (plane .denoised) (reached plane dr dc p)
 
-abbrev pub inQuarters : Factor → Place → ℤ
-inQuarters (noiseAt plane dr dc) p = whole plane dr dc p *ℤ pos 4
-inQuarters (average luma) (r, c) = quarters luma r c
-
 abbrev pub exactly : Factor → Factor → Place → ℤ
 exactly (noiseAt a dr dc) (noiseAt b er ec) p = whole a dr dc p *ℤ whole b er ec p
-exactly (noiseAt a dr dc) (average m) p = inQuarters (noiseAt a dr dc) p *ℤ inQuarters (average m) p
-exactly (average l) (noiseAt b er ec) p = inQuarters (average l) p *ℤ inQuarters (noiseAt b er ec) p
-exactly (average l) (average m) p = inQuarters (average l) p *ℤ inQuarters (average m) p
+exactly (noiseAt a dr dc) (average m) (r, c) = whole a dr dc (r, c) *ℤ quarters m r c *ℤ pos 4
+exactly (average l) (noiseAt b er ec) (r, c) = quarters l r c *ℤ whole b er ec (r, c) *ℤ pos 4
+exactly (average l) (average m) (r, c) = quarters l r c *ℤ quarters m r c
 
 -- it is counted in 2 ^ scale-ths
 abbrev pub scale : Factor → Factor → ℕ
