@@ -82,10 +82,10 @@ module _ (limit top : ℕ) (all : List Place) (few : length all ≤ limit) where
   product (average l) (average m) S T e room = both (average l) (average m) S T e room
 
 -- ---- the claim, for any limit whose sums f64 holds
-pub demand-3 : (limit top : ℕ) (u v : Factor) → Held (limitOf limit top u v) → Limited limit top u → Limited limit top v → Exact limit top u v
-demand-3 limit top u v H S T [] P =
+pub products-exact : (limit top : ℕ) (u v : Factor) → Held (limitOf limit top u v) → Limited limit top u → Limited limit top v → Exact limit top u v
+products-exact limit top u v H S T [] P =
     law-of-sums (limitOf limit top u v) H [] (productF u v) (exactly u v) (record { few = zero-le; small = λ p h. absurd h; holds = λ p h. absurd h })
-demand-3 limit top u v H S T (p ∷ ps) P =
+products-exact limit top u v H S T (p ∷ ps) P =
     let f : length (p ∷ ps) ≤ limit = places-few limit top u (p ∷ ps) S (P .once) (λ q h. P .exist q h .0) in
     law-of-sums (limitOf limit top u v) H (p ∷ ps) (productF u v) (exactly u v)
     (product limit top (p ∷ ps) f u v S T (P .exist) (one-held limit (2 ^ scale u v * (top * top)) (lt-of-lt-of-le (zero-lt-suc (length ps)) f) (H .room)))
@@ -97,8 +97,8 @@ frame-held (noiseAt a dr dc) (average m) = record { fine = lit≤ tt; room = lit
 frame-held (average l) (noiseAt b er ec) = record { fine = lit≤ tt; room = lit≤ tt }
 frame-held (average l) (average m) = record { fine = lit≤ tt; room = lit≤ tt }
 
-pub demand-3-of-frames : (u v : Factor) → Limited frameSamples frameTop u → Limited frameSamples frameTop v → Exact frameSamples frameTop u v
-demand-3-of-frames u v S T = demand-3 frameSamples frameTop u v (frame-held u v) S T
+pub frame-products-exact : (u v : Factor) → Limited frameSamples frameTop u → Limited frameSamples frameTop v → Exact frameSamples frameTop u v
+frame-products-exact u v S T = products-exact frameSamples frameTop u v (frame-held u v) S T
 
 -- planes that every question lets pass
 pub frame-samples : (w h depth : ℕ) (source denoised : List ℕ) → w ≤ 4096 → h ≤ 4096 → depth ≤ 12

@@ -24,7 +24,7 @@ use Rattle.noise.specs.Claim.{Limited, limitOf, PositionsOf}
 use Rattle.noise.specs.Steps.{windowF, dotF, lagF}
 use Rattle.noise.proofs.Grid.{sum-grid}
 use Rattle.noise.proofs.Loops.{loop-rows, loop-tested}
-use Rattle.noise.proofs.Products.{demand-3}
+use Rattle.noise.proofs.Products.{products-exact}
 
 -- ---- a window all of whose places are positions
 abbrev pub Everywhere : Factor → Factor → ℕ → ℕ → ℕ → ℕ → Type 0
@@ -44,7 +44,7 @@ module _ (limit top : ℕ) (u v : Factor) (H : Held (limitOf limit top u v)) (S 
   pub window-sum : (a b c d : ℕ) → Everywhere u v a b c d → windowF u v a b c d ≡ ofScaled (scale u v) (span (λ y. span (λ x. exactly u v (y, x)) c (d - c)) a (b - a))
   window-sum a b c d e =
       window-case u v a b c d
-      ∙ demand-3 limit top u v H S T (window a b c d) (window-positions u v a b c d e) .exact (window a b c d) (record { once = window-nodup a b c d; inside = λ p h. h })
+      ∙ products-exact limit top u v H S T (window a b c d) (window-positions u v a b c d e) .exact (window a b c d) (record { once = window-nodup a b c d; inside = λ p h. h })
       ∙ ap (ofScaled (scale u v)) (sum-window (λ y x. exactly u v (y, x)) a b c d)
 
   -- counted from 0

@@ -19,7 +19,7 @@ abbrev pub Limited : ℕ → ℕ → Factor → Type 0
 Limited limit top (noiseAt plane dr dc) = Samples limit top (plane .source) (plane .denoised) (plane .width * plane .height)
 Limited limit top (average luma) = Samples limit top (luma .source) (luma .denoised) (luma .width * luma .height)
 
--- document 01's frames
+-- the most samples that a frame has, and what each of them is below
 abbrev pub frameSamples : ℕ
 frameSamples = 4096 * 4096
 

@@ -53,13 +53,14 @@ productF u v p = mul binary64 (floatAt u p) (floatAt v p)
 abbrev pub whole : Pair → ℤ → ℤ → Place → ℤ
 whole plane dr dc p = noise (plane .source) (plane .denoised) (reached plane dr dc p)
 
+-- a noise times quarters is in quarters: four sixteenths each
 abbrev pub exactly : Factor → Factor → Place → ℤ
 exactly (noiseAt a dr dc) (noiseAt b er ec) p = whole a dr dc p *ℤ whole b er ec p
 exactly (noiseAt a dr dc) (average m) (r, c) = whole a dr dc (r, c) *ℤ quarters m r c *ℤ pos 4
 exactly (average l) (noiseAt b er ec) (r, c) = quarters l r c *ℤ whole b er ec (r, c) *ℤ pos 4
 exactly (average l) (average m) (r, c) = quarters l r c *ℤ quarters m r c
 
--- it is counted in 2 ^ scale-ths
+-- the parts it is counted in: 2 ^ scale of them make one
 abbrev pub scale : Factor → Factor → ℕ
 scale (noiseAt a dr dc) (noiseAt b er ec) = 0
 scale (noiseAt a dr dc) (average m) = 4
