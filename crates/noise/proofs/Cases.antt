@@ -9,4 +9,4 @@ use Rattle.noise.specs.Cases.{averageAt, cases}
 
 cases-right : Right averageAt cases
 unfolding averageF quarters visited loop turns sumTo add sub div ofInt ofBits
-cases-right = (refl, (refl, (refl, (refl, (refl, (refl, (refl, tt)))))))
+cases-right = (refl, (refl, (refl, (refl, (refl, (refl, (refl, (refl, (refl, (refl, tt))))))))))
