@@ -16,7 +16,7 @@ use Rattle.laws.proofs.Sets.{length-within}
 use Rattle.laws.proofs.Window.{window-in, length-window}
 use Rattle.frame.specs.Size.{chromaWidth, chromaHeight}
 use Rattle.noise.specs.Average.{Luma}
-use Rattle.noise.specs.Products.{Pair, Factor, noiseAt, average, Inside, Exists}
+use Rattle.noise.specs.Products.{Pair, Factor, noiseFrom, average, Inside, Exists}
 use Rattle.noise.specs.Claim.{Limited}
 use Rattle.noise.proofs.Factors.{inside-lt}
 
@@ -39,7 +39,7 @@ module _ (plane : Pair) (dr dc : ℤ) where
   abbrev froms : List Place
   froms = map back (window 0 (plane .height) 0 (plane .width))
 
-  in-froms : (p : Place) → Exists (noiseAt plane dr dc) p → In p froms
+  in-froms : (p : Place) → Exists (noiseFrom plane dr dc) p → In p froms
   in-froms p h =
       let r = natAbs (pos (p .0) +ℤ dr) in
       let c = natAbs (pos (p .1) +ℤ dc) in
@@ -47,7 +47,7 @@ module _ (plane : Pair) (dr dc : ℤ) where
       (map-in back (r, c) (window 0 (plane .height) 0 (plane .width))
       (window-in 0 (plane .height) 0 (plane .width) r c zero-le (inside-lt (plane .height) (pos (p .0) +ℤ dr) (h .0)) zero-le (inside-lt (plane .width) (pos (p .1) +ℤ dc) (h .1))))
 
-  noise-places : (ps : List Place) → NoDup ps → ((p : Place) → In p ps → Exists (noiseAt plane dr dc) p) → length ps ≤ plane .width * plane .height
+  noise-places : (ps : List Place) → NoDup ps → ((p : Place) → In p ps → Exists (noiseFrom plane dr dc) p) → length ps ≤ plane .width * plane .height
   noise-places ps n e =
       le-trans (length-within ps froms n (λ p h. in-froms p (e p h)))
       (le-of-eq (length-map (window 0 (plane .height) 0 (plane .width)) back ∙ grid-length (plane .height) (plane .width)))
@@ -68,5 +68,5 @@ average-places luma ps n e =
     (mul-le-mul (halved-le (eqb (luma .format) 0) (leb (luma .format) 2) (luma .width)) (halved-le (eqb (luma .format) 0) (eqb (luma .format) 1) (luma .height))))
 
 pub places-few : (limit top : ℕ) (u : Factor) (ps : List Place) → Limited limit top u → NoDup ps → ((p : Place) → In p ps → Exists u p) → length ps ≤ limit
-places-few limit top (noiseAt plane dr dc) ps S n e = le-trans (noise-places plane dr dc ps n e) (S .few)
+places-few limit top (noiseFrom plane dr dc) ps S n e = le-trans (noise-places plane dr dc ps n e) (S .few)
 places-few limit top (average luma) ps S n e = le-trans (average-places luma ps n e) (S .few)

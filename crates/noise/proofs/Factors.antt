@@ -12,10 +12,10 @@ use Rattle.laws.specs.Scaled.{Holds}
 use Rattle.frame.specs.Size.{chromaWidth, chromaHeight}
 use Rattle.noise.specs.Noise.{place}
 use Rattle.noise.specs.Average.{Luma, lumaPlace, quarters}
-use Rattle.noise.specs.Products.{Pair, Factor, noiseAt, average, Inside, Exists, reached, floatAt, whole}
+use Rattle.noise.specs.Products.{Pair, Factor, noiseFrom, average, Inside, Exists, reached, floatAt, whole}
 use Rattle.noise.specs.Claim.{Limited}
-use Rattle.noise.proofs.Noise.{noise-exact}
-use Rattle.noise.proofs.Average.{average-exact}
+use Rattle.noise.proofs.FloatNoise.{noise-exact}
+use Rattle.noise.proofs.FloatAverage.{average-exact}
 
 -- ---- in the plane
 place-lt : (w h r c : ℕ) → r < h → c < w → place w r c < w * h
@@ -25,7 +25,7 @@ pub inside-lt : (n : ℕ) (z : ℤ) → Inside n z → natAbs z < n
 inside-lt n (pos m) h = ltb→lt m n (h .1 .lt)
 inside-lt n (negsuc m) h = absurd (h .0 .le)
 
-reached-lt : (plane : Pair) (dr dc : ℤ) (p : Place) → Exists (noiseAt plane dr dc) p → reached plane dr dc p < plane .width * plane .height
+reached-lt : (plane : Pair) (dr dc : ℤ) (p : Place) → Exists (noiseFrom plane dr dc) p → reached plane dr dc p < plane .width * plane .height
 reached-lt plane dr dc p h =
     place-lt (plane .width) (plane .height) (natAbs (pos (p .0) +ℤ dr)) (natAbs (pos (p .1) +ℤ dc))
     (inside-lt (plane .height) (pos (p .0) +ℤ dr) (h .0)) (inside-lt (plane .width) (pos (p .1) +ℤ dc) (h .1))
@@ -44,16 +44,16 @@ luma-lt luma p h i j =
 
 -- ---- in f64: a noise is a whole number of ones, an average one of quarters
 abbrev pub fine : Factor → ℕ
-fine (noiseAt plane dr dc) = 0
+fine (noiseFrom plane dr dc) = 0
 fine (average luma) = 2
 
 abbrev pub parts : Factor → Place → ℤ
-parts (noiseAt plane dr dc) p = whole plane dr dc p
+parts (noiseFrom plane dr dc) p = whole plane dr dc p
 parts (average luma) p = quarters luma (p .0) (p .1)
 
 pub factor-exact : (limit top : ℕ) (u : Factor) (p : Place) → Limited limit top u → Exists u p → 2 ^ fine u * top ≤ 2 ^ 53
     → (natAbs (parts u p) ≤ 2 ^ fine u * top) × Holds (fine u) (parts u p) (floatAt u p)
-factor-exact limit top (noiseAt plane dr dc) p S e room =
+factor-exact limit top (noiseFrom plane dr dc) p S e room =
     let q : 1 * top ≡ top = one-mul top in
     rw q (noise-exact (plane .source) (plane .denoised) (reached plane dr dc p) top
     (S .lowSource (reached plane dr dc p) (reached-lt plane dr dc p e)) (S .lowDenoised (reached plane dr dc p) (reached-lt plane dr dc p e)) (rw q at room))

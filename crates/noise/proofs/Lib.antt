@@ -1,7 +1,7 @@
-pub mod Grid
+pub mod FromZero
 pub mod Loops
-pub mod Noise
-pub mod Average
+pub mod FloatNoise
+pub mod FloatAverage
 pub mod Factors
 pub mod Count
 pub mod Products

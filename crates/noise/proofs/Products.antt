@@ -17,7 +17,7 @@ use Rattle.laws.proofs.Scaled.{holds-finer}
 use Rattle.laws.proofs.Limits.{multiplied}
 use Rattle.laws.proofs.Law.{law-of-sums}
 use Rattle.noise.specs.Average.{quarters}
-use Rattle.noise.specs.Products.{Factor, noiseAt, average, Exists, floatAt, productF, whole, exactly, scale}
+use Rattle.noise.specs.Products.{Factor, noiseFrom, average, Exists, floatAt, productF, whole, exactly, scale}
 use Rattle.noise.specs.Claim.{Samples, Limited, frameSamples, frameTop, limitOf, Exact}
 use Rattle.noise.proofs.Count.{places-few}
 use Rattle.noise.proofs.Factors.{fine, parts, factor-exact}
@@ -37,7 +37,7 @@ fourth-held : (n : ℕ) → 16 * n ≤ 2 ^ 53 → 4 * n ≤ 2 ^ 53
 fourth-held n h = omega arith
 
 fine-le : (u : Factor) → fine u ≤ 2
-fine-le (noiseAt plane dr dc) = lit≤ tt
+fine-le (noiseFrom plane dr dc) = lit≤ tt
 fine-le (average luma) = lit≤ tt
 
 module _ (limit top : ℕ) (all : List Place) (few : length all ≤ limit) where
@@ -74,11 +74,11 @@ module _ (limit top : ℕ) (all : List Place) (few : length all ≤ limit) where
 
   product : (u v : Factor) → Limited limit top u → Limited limit top v → ((p : Place) → In p all → Exists u p × Exists v p) → 2 ^ scale u v * (top * top) ≤ 2 ^ 53
       → Product (limitOf limit top u v) all (productF u v) (exactly u v)
-  product (noiseAt a dr dc) (noiseAt b er ec) S T e room = both (noiseAt a dr dc) (noiseAt b er ec) S T e room
-  product (noiseAt a dr dc) (average m) S T e room =
-      four-each (productF (noiseAt a dr dc) (average m)) (λ p. whole a dr dc p *ℤ quarters m (p .0) (p .1)) (both (noiseAt a dr dc) (average m) S T e (fourth-held (top * top) room))
-  product (average l) (noiseAt b er ec) S T e room =
-      four-each (productF (average l) (noiseAt b er ec)) (λ p. quarters l (p .0) (p .1) *ℤ whole b er ec p) (both (average l) (noiseAt b er ec) S T e (fourth-held (top * top) room))
+  product (noiseFrom a dr dc) (noiseFrom b er ec) S T e room = both (noiseFrom a dr dc) (noiseFrom b er ec) S T e room
+  product (noiseFrom a dr dc) (average m) S T e room =
+      four-each (productF (noiseFrom a dr dc) (average m)) (λ p. whole a dr dc p *ℤ quarters m (p .0) (p .1)) (both (noiseFrom a dr dc) (average m) S T e (fourth-held (top * top) room))
+  product (average l) (noiseFrom b er ec) S T e room =
+      four-each (productF (average l) (noiseFrom b er ec)) (λ p. quarters l (p .0) (p .1) *ℤ whole b er ec p) (both (average l) (noiseFrom b er ec) S T e (fourth-held (top * top) room))
   product (average l) (average m) S T e room = both (average l) (average m) S T e room
 
 -- ---- the claim, for any limit whose sums f64 holds
@@ -92,9 +92,9 @@ products-exact limit top u v H S T (p ∷ ps) P =
 
 -- ---- "(At most 4,096×4,096 samples below 2^12.)"
 pub frame-held : (u v : Factor) → Held (limitOf frameSamples frameTop u v)
-frame-held (noiseAt a dr dc) (noiseAt b er ec) = record { fine = lit≤ tt; room = lit≤ tt }
-frame-held (noiseAt a dr dc) (average m) = record { fine = lit≤ tt; room = lit≤ tt }
-frame-held (average l) (noiseAt b er ec) = record { fine = lit≤ tt; room = lit≤ tt }
+frame-held (noiseFrom a dr dc) (noiseFrom b er ec) = record { fine = lit≤ tt; room = lit≤ tt }
+frame-held (noiseFrom a dr dc) (average m) = record { fine = lit≤ tt; room = lit≤ tt }
+frame-held (average l) (noiseFrom b er ec) = record { fine = lit≤ tt; room = lit≤ tt }
 frame-held (average l) (average m) = record { fine = lit≤ tt; room = lit≤ tt }
 
 pub frame-products-exact : (u v : Factor) → Limited frameSamples frameTop u → Limited frameSamples frameTop v → Exact frameSamples frameTop u v

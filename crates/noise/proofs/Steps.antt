@@ -1,8 +1,8 @@
 -- The sums that the calls make are cases of demand 3: their loops walk along sets of positions, so each is the exact sum. Assumes nothing.
-use mathlib.Core.Path.{_≡_, sym, ap, _∙_, fun-ext}
+use mathlib.Core.Path.{_≡_, refl, sym, ap, _∙_, fun-ext}
 use mathlib.Core.List.{map}
 use Prim.Native.Nat.{ℕ, _+_, _-_, _*_, _<_, _≤_, zero-le}
-use native.Mathlib.Nat.{add-zero, add-assoc, mul-comm}
+use native.Mathlib.Nat.{add-zero, add-assoc, mul-comm, sub-zero}
 use native.Mathlib.Omega.{arith}
 use lib.Dec.{le→leb, lt→ltb}
 use lib.IntN.{ℤ, pos, _+ℤ_, _*ℤ_}
@@ -14,7 +14,6 @@ use Rattle.laws.specs.Scaled.{ofScaled}
 use Rattle.laws.specs.Window.{window}
 use Rattle.laws.specs.FloatSums.{sumF}
 use Rattle.laws.specs.Law.{Held}
-use Rattle.laws.proofs.Sums.{sum-rows}
 use Rattle.laws.proofs.Window.{in-window, window-nodup, sum-window}
 use Rattle.laws.proofs.FloatSums.{loops-sum}
 use Rattle.noise.specs.Noise.{noise, noiseF, place}
@@ -22,7 +21,7 @@ use Rattle.noise.specs.Average.{plusZero}
 use Rattle.noise.specs.Products.{Pair, Factor, own, onward, Inside, Exists, reached, productF, exactly, scale}
 use Rattle.noise.specs.Claim.{Limited, limitOf, PositionsOf}
 use Rattle.noise.specs.Steps.{windowF, dotF, lagF}
-use Rattle.noise.proofs.Grid.{sum-grid}
+use Rattle.noise.proofs.FromZero.{sum-grid}
 use Rattle.noise.proofs.Loops.{loop-rows, loop-tested}
 use Rattle.noise.proofs.Products.{products-exact}
 
@@ -51,27 +50,34 @@ module _ (limit top : ℕ) (u v : Factor) (H : Held (limitOf limit top u v)) (S 
   pub grid-sum : (h w : ℕ) → Everywhere u v 0 h 0 w → windowF u v 0 h 0 w ≡ ofScaled (scale u v) (sumTo (λ y. sumTo (λ x. exactly u v (y, x)) w) h)
   grid-sum h w e = window-sum 0 h 0 w e ∙ ap (ofScaled (scale u v)) (sum-grid (λ y x. exactly u v (y, x)) h w)
 
--- ---- the noise at a place, and the one `lag` columns on
-own-place : (p : Pair) (r c : ℕ) → reached p (pos 0) (pos 0) (r, c) ≡ place (p .width) r c
+-- ---- a noise and the one `lag` columns on, of two planes of one shape
+pub own-place : (p : Pair) (r c : ℕ) → reached p (pos 0) (pos 0) (r, c) ≡ place (p .width) r c
 own-place p r c = λ i. place (p .width) (add-zero r i) (add-zero c i)
-
-onward-place : (p : Pair) (lag r c : ℕ) → reached p (pos 0) (pos lag) (r, c) ≡ place (p .width) r c + lag
-onward-place p lag r c = (λ i. place (p .width) (add-zero r i) (c + lag)) ∙ sym (add-assoc (r * p .width) c lag)
 
 pub inside-on : (n r k : ℕ) → r + k < n → Inside n (pos r +ℤ pos k)
 inside-on n r k h = (leZ-yes (le→leb 0 (r + k) zero-le), ltZ-yes (lt→ltb (r + k) n h))
 
-own-exists : (p : Pair) (r c : ℕ) → r < p .height → c < p .width → Exists (own p) (r, c)
-own-exists p r c h l = (inside-on (p .height) r 0 (omega arith), inside-on (p .width) c 0 (omega arith))
+onward-exists : (p : Pair) (lag r c : ℕ) → r < p .height → c + lag < p .width → Exists (onward p lag) (r, c)
+onward-exists p lag r c h l = (inside-on (p .height) r 0 (omega arith), inside-on (p .width) c lag l)
 
-onward-exists : (p : Pair) (lag r c : ℕ) → r < p .height → c < p .width - lag → Exists (onward p lag) (r, c)
-onward-exists p lag r c h l = (inside-on (p .height) r 0 (omega arith), inside-on (p .width) c lag (omega arith))
+-- their exact sum
+abbrev pub laggedSum : Pair → Pair → ℕ → ℤ
+laggedSum a b lag =
+    sumTo (λ r. sumTo (λ c. noise (a .source) (a .denoised) (place (a .width) r c) *ℤ noise (b .source) (b .denoised) (place (a .width) r (c + lag))) (a .width - lag)) (a .height)
 
--- ---- `dot`, of two planes of one shape
 module _ (a b : Pair) (wide : b .width ≡ a .width) (high : b .height ≡ a .height) where
-  same-place : (r c : ℕ) → reached b (pos 0) (pos 0) (r, c) ≡ place (a .width) r c
-  same-place r c = own-place b r c ∙ ap (λ (w : ℕ). place w r c) wide
+  onward-place : (lag r c : ℕ) → reached b (pos 0) (pos lag) (r, c) ≡ place (a .width) r (c + lag)
+  onward-place lag r c = λ i. place (wide i) (add-zero r i) (c + lag)
 
+  pub lagged-sum : (lag limit top : ℕ) → Held (limitOf limit top (own a) (onward b lag)) → Limited limit top (own a) → Limited limit top (own b)
+      → windowF (own a) (onward b lag) 0 (a .height) 0 (a .width - lag) ≡ ofScaled 0 (laggedSum a b lag)
+  lagged-sum lag limit top H S T =
+      grid-sum limit top (own a) (onward b lag) H S T (a .height) (a .width - lag)
+      (λ y x h k l m. (onward-exists a 0 y x k (omega arith), onward-exists b lag y x (omega arith) (omega arith)))
+      ∙ ap (ofScaled 0)
+      (λ i. sumTo (λ r. sumTo (λ c. noise (a .source) (a .denoised) (own-place a r c i) *ℤ noise (b .source) (b .denoised) (onward-place lag r c i)) (a .width - lag)) (a .height))
+
+  -- `dot`: at lag 0
   pub dot-window : dotF a b ≡ windowF (own a) (own b) 0 (a .height) 0 (a .width)
   unfolding dotF windowF
   dot-window =
@@ -83,35 +89,26 @@ module _ (a b : Pair) (wide : b .width ≡ a .width) (high : b .height ≡ a .he
       turn : ℕ → Float → Float
       turn i s = add binary64 s (mul binary64 (noiseF (a .source) (a .denoised) i) (noiseF (b .source) (b .denoised) i))
 
-  pub dot-sum : (limit top : ℕ) → Held (limitOf limit top (own a) (own b)) → Limited limit top (own a) → Limited limit top (own b)
-      → dotF a b ≡ ofScaled 0 (sumTo (λ i. noise (a .source) (a .denoised) i *ℤ noise (b .source) (b .denoised) i) (a .width * a .height))
-  dot-sum limit top H S T =
-      dot-window
-      ∙ grid-sum limit top (own a) (own b) H S T (a .height) (a .width) (λ y x h k l m. (own-exists a y x k m, own-exists b y x (omega arith) (omega arith)))
-      ∙ ap (ofScaled 0)
-      ((λ i. sumTo (λ y. sumTo (λ x. noise (a .source) (a .denoised) (own-place a y x i) *ℤ noise (b .source) (b .denoised) (same-place y x i)) (a .width)) (a .height))
-      ∙ sum-rows product (a .width) (a .height)
-      ∙ ap (sumTo product) (mul-comm (a .height) (a .width)))
-    where
-      product : ℕ → ℤ
-      product i = noise (a .source) (a .denoised) i *ℤ noise (b .source) (b .denoised) i
+      same-place : (r c : ℕ) → reached b (pos 0) (pos 0) (r, c) ≡ place (a .width) r c
+      same-place r c = own-place b r c ∙ ap (λ (w : ℕ). place w r c) wide
 
--- ---- the row correlation
+  pub dot-sum : (limit top : ℕ) → Held (limitOf limit top (own a) (own b)) → Limited limit top (own a) → Limited limit top (own b) → dotF a b ≡ ofScaled 0 (laggedSum a b 0)
+  dot-sum limit top H S T = dot-window ∙ ap (windowF (own a) (own b) 0 (a .height) 0) (sym (sub-zero (a .width))) ∙ lagged-sum 0 limit top H S T
+
+-- ---- the row correlation: in one plane
 module _ (p : Pair) (lag : ℕ) where
   pub lag-window : lagF p lag ≡ windowF (own p) (onward p lag) 0 (p .height) 0 (p .width - lag)
   unfolding lagF windowF
   lag-window =
       ap (λ (f : ℕ → Float → Float). loop 0 (p .height) f plusZero) (fun-ext (λ r. fun-ext (λ s. loop-tested (turn r) (p .width) lag s)))
       ∙ (λ i. loop 0 (p .height) (λ r. loop 0 (p .width - lag) (λ c s. add binary64 s
-      (mul binary64 (noiseF (p .source) (p .denoised) (sym (own-place p r c) i)) (noiseF (p .source) (p .denoised) (sym (onward-place p lag r c) i))))) plusZero)
+      (mul binary64 (noiseF (p .source) (p .denoised) (sym (own-place p r c) i)) (noiseF (p .source) (p .denoised) (sym (far-place r c) i))))) plusZero)
     where
       turn : ℕ → ℕ → Float → Float
       turn r c s = add binary64 s (mul binary64 (noiseF (p .source) (p .denoised) (place (p .width) r c)) (noiseF (p .source) (p .denoised) (place (p .width) r c + lag)))
 
-  pub lag-sum : (limit top : ℕ) → Held (limitOf limit top (own p) (onward p lag)) → Limited limit top (own p)
-      → lagF p lag ≡ ofScaled 0 (sumTo (λ r. sumTo (λ c. noise (p .source) (p .denoised) (place (p .width) r c) *ℤ noise (p .source) (p .denoised) (place (p .width) r c + lag)) (p .width - lag)) (p .height))
-  lag-sum limit top H S =
-      lag-window
-      ∙ grid-sum limit top (own p) (onward p lag) H S S (p .height) (p .width - lag) (λ y x h k l m. (own-exists p y x k (omega arith), onward-exists p lag y x k m))
-      ∙ ap (ofScaled 0)
-      (λ i. sumTo (λ r. sumTo (λ c. noise (p .source) (p .denoised) (own-place p r c i) *ℤ noise (p .source) (p .denoised) (onward-place p lag r c i)) (p .width - lag)) (p .height))
+      far-place : (r c : ℕ) → reached p (pos 0) (pos lag) (r, c) ≡ place (p .width) r c + lag
+      far-place r c = (λ i. place (p .width) (add-zero r i) (c + lag)) ∙ sym (add-assoc (r * p .width) c lag)
+
+  pub lag-sum : (limit top : ℕ) → Held (limitOf limit top (own p) (onward p lag)) → Limited limit top (own p) → lagF p lag ≡ ofScaled 0 (laggedSum p p lag)
+  lag-sum limit top H S = lag-window ∙ lagged-sum p p refl refl lag limit top H S S

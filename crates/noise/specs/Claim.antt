@@ -6,7 +6,7 @@ use lib.ListN.{getD}
 use Rattle.laws.specs.Window.{Place}
 use Rattle.laws.specs.Sets.{In, NoDup}
 use Rattle.laws.specs.Law.{Limit, ExactSums}
-use Rattle.noise.specs.Products.{Factor, noiseAt, average, Exists, productF, exactly, scale}
+use Rattle.noise.specs.Products.{Factor, noiseFrom, average, Exists, productF, exactly, scale}
 
 -- at most `limit` samples, each below `top`, in a plane and in its copy; past a list's end the sample is 0
 pub record Samples (limit top : ℕ) (source denoised : List ℕ) (count : ℕ) : Type 0 where
@@ -16,7 +16,7 @@ pub record Samples (limit top : ℕ) (source denoised : List ℕ) (count : ℕ) 
 
 -- a factor is worked from such planes
 abbrev pub Limited : ℕ → ℕ → Factor → Type 0
-Limited limit top (noiseAt plane dr dc) = Samples limit top (plane .source) (plane .denoised) (plane .width * plane .height)
+Limited limit top (noiseFrom plane dr dc) = Samples limit top (plane .source) (plane .denoised) (plane .width * plane .height)
 Limited limit top (average luma) = Samples limit top (luma .source) (luma .denoised) (luma .width * luma .height)
 
 -- the most samples that a frame has, and what each of them is below

@@ -19,15 +19,15 @@ pub record Pair : Type 0 where
 
 -- what is multiplied, seen from a place: the noise of a plane some rows down and columns on from there, or the luma average of a chroma place
 pub data Factor : Type 0 where
-  noiseAt : Pair → ℤ → ℤ → Factor
+  noiseFrom : Pair → ℤ → ℤ → Factor
   average : Luma → Factor
 
--- the sample's own noise, and the one `lag` columns on; a neighbour's is `noiseAt plane dr dc`
+-- the sample's own noise, and the one `lag` columns on; a neighbour's is `noiseFrom plane dr dc`
 abbrev pub own : Pair → Factor
-own plane = noiseAt plane (pos 0) (pos 0)
+own plane = noiseFrom plane (pos 0) (pos 0)
 
 abbrev pub onward : Pair → ℕ → Factor
-onward plane lag = noiseAt plane (pos 0) (pos lag)
+onward plane lag = noiseFrom plane (pos 0) (pos lag)
 
 -- ---- "A product's positions are the places where all its factors exist."
 -- z is the number of one of n rows or columns
@@ -35,7 +35,7 @@ abbrev pub Inside : ℕ → ℤ → Type 0
 Inside n z = (pos 0 ≤ℤ z) × (z <ℤ pos n)
 
 abbrev pub Exists : Factor → Place → Type 0
-Exists (noiseAt plane dr dc) (r, c) = Inside (plane .height) (pos r +ℤ dr) × Inside (plane .width) (pos c +ℤ dc)
+Exists (noiseFrom plane dr dc) (r, c) = Inside (plane .height) (pos r +ℤ dr) × Inside (plane .width) (pos c +ℤ dc)
 Exists (average luma) (r, c) = (r < chromaHeight (luma .format) (luma .height)) × (c < chromaWidth (luma .format) (luma .width))
 
 -- ---- the product in f64, each factor worked as the Rust does
@@ -43,7 +43,7 @@ abbrev pub reached : Pair → ℤ → ℤ → Place → ℕ
 reached plane dr dc (r, c) = place (plane .width) (natAbs (pos r +ℤ dr)) (natAbs (pos c +ℤ dc))
 
 abbrev pub floatAt : Factor → Place → Float
-floatAt (noiseAt plane dr dc) p = noiseF (plane .source) (plane .denoised) (reached plane dr dc p)
+floatAt (noiseFrom plane dr dc) p = noiseF (plane .source) (plane .denoised) (reached plane dr dc p)
 floatAt (average luma) (r, c) = averageF luma r c
 
 abbrev pub productF : Factor → Factor → Place → Float
@@ -55,14 +55,14 @@ whole plane dr dc p = noise (plane .source) (plane .denoised) (reached plane dr 
 
 -- a noise times quarters is in quarters: four sixteenths each
 abbrev pub exactly : Factor → Factor → Place → ℤ
-exactly (noiseAt a dr dc) (noiseAt b er ec) p = whole a dr dc p *ℤ whole b er ec p
-exactly (noiseAt a dr dc) (average m) (r, c) = whole a dr dc (r, c) *ℤ quarters m r c *ℤ pos 4
-exactly (average l) (noiseAt b er ec) (r, c) = quarters l r c *ℤ whole b er ec (r, c) *ℤ pos 4
+exactly (noiseFrom a dr dc) (noiseFrom b er ec) p = whole a dr dc p *ℤ whole b er ec p
+exactly (noiseFrom a dr dc) (average m) (r, c) = whole a dr dc (r, c) *ℤ quarters m r c *ℤ pos 4
+exactly (average l) (noiseFrom b er ec) (r, c) = quarters l r c *ℤ whole b er ec (r, c) *ℤ pos 4
 exactly (average l) (average m) (r, c) = quarters l r c *ℤ quarters m r c
 
 -- the parts it is counted in: 2 ^ scale of them make one
 abbrev pub scale : Factor → Factor → ℕ
-scale (noiseAt a dr dc) (noiseAt b er ec) = 0
-scale (noiseAt a dr dc) (average m) = 4
-scale (average l) (noiseAt b er ec) = 4
+scale (noiseFrom a dr dc) (noiseFrom b er ec) = 0
+scale (noiseFrom a dr dc) (average m) = 4
+scale (average l) (noiseFrom b er ec) = 4
 scale (average l) (average m) = 4

@@ -10,7 +10,7 @@ use Rattle.laws.specs.Loop.{loop}
 use Rattle.frame.specs.Size.{chromaWidth, chromaHeight}
 use Rattle.noise.specs.Noise.{noiseF, place}
 use Rattle.noise.specs.Average.{Luma, plusZero}
-use Rattle.noise.specs.Products.{Pair, Factor, noiseAt, average, productF}
+use Rattle.noise.specs.Products.{Pair, Factor, noiseFrom, average, productF}
 
 -- the fits, the chroma correlation, the energy of a row correlation: `for y in a..b { for x in c..d { sum += u * v; } }`
 unfoldable pub windowF : Factor → Factor → ℕ → ℕ → ℕ → ℕ → Float
@@ -19,7 +19,7 @@ windowF u v a b c d = loop a b (λ y. loop c d (λ x s. add binary64 s (productF
 
 -- the factors of a fit, whose window is rows lag to h - 1 and columns lag to w - lag - 1: noises at most `lag` rows up and `lag` columns to either side, the sample's own among them, and for chroma the luma average
 pub data InFit (plane : Pair) (lag : ℕ) : Factor → Type 0 where
-  near : (dr dc : ℤ) → negℤ (pos lag) ≤ℤ dr → dr ≤ℤ pos 0 → negℤ (pos lag) ≤ℤ dc → dc ≤ℤ pos lag → InFit plane lag (noiseAt plane dr dc)
+  near : (dr dc : ℤ) → negℤ (pos lag) ≤ℤ dr → dr ≤ℤ pos 0 → negℤ (pos lag) ≤ℤ dc → dc ≤ℤ pos lag → InFit plane lag (noiseFrom plane dr dc)
   tap : (luma : Luma) → chromaHeight (luma .format) (luma .height) ≡ plane .height → chromaWidth (luma .format) (luma .width) ≡ plane .width → InFit plane lag (average luma)
 
 -- the gates: `dot` of two noise vectors

@@ -18,8 +18,8 @@ use Rattle.laws.proofs.Scaled.{holds-scaled, holds-finer, div-scaled}
 use Rattle.laws.proofs.LoopLaw.{window-exact}
 use Rattle.noise.specs.Noise.{noise, noiseF}
 use Rattle.noise.specs.Average.{Luma, subX, subY, lumaPlace, plusZero, one, visited, averageF, quarters}
-use Rattle.noise.proofs.Grid.{sum-grid}
-use Rattle.noise.proofs.Noise.{noise-exact}
+use Rattle.noise.proofs.FromZero.{sum-grid}
+use Rattle.noise.proofs.FloatNoise.{noise-exact}
 
 -- 1, 2 or 4 luma noises, and 1.0 for each
 visits : (bx by : Bool) → ((cond by 1 0 + 1 - 0) * (cond bx 1 0 + 1 - 0) ≤ 4) × (cond bx 1 0 + cond by 1 0 ≤ 2)
