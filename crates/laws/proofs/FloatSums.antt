@@ -5,8 +5,9 @@ use Prim.Native.Nat.{ℕ}
 use lib.Ieee.{Float, binary64, add}
 use Rattle.laws.specs.Loop.{loop}
 use Rattle.laws.specs.Table.{range}
+use Rattle.laws.specs.Scaled.{plusZero}
 use Rattle.laws.specs.Window.{window, at}
-use Rattle.laws.specs.FloatSums.{plusZero, sumF}
+use Rattle.laws.specs.FloatSums.{sumF}
 use Rattle.laws.proofs.Visit.{visit-map, loop-visit, loops-visit}
 
 -- `for i in a..b { s = s + f(i); }`

@@ -1,7 +1,7 @@
 -- The law of sums: at each step the accumulator is the exact sum so far, which never passes 2 ^ 53. Assumes nothing.
 use mathlib.Core.Path.{_≡_, refl, sym, ap, _∙_, subst}
 use mathlib.Core.List.{List, [], _∷_, _++_, map, map-append}
-use mathlib.Core.Logic.{inl, inr}
+use mathlib.Core.Logic.{inl, inr, ⊎-elim}
 use Prim.Native.Nat.{ℕ, suc, _+_, _*_, _^_, _≤_, zero-le}
 use native.Mathlib.Nat.{le-trans, le-of-eq, zero-add, add-comm, add-le-add, mul-le-mul-right, suc-mul}
 use native.Mathlib.Omega.{arith}
@@ -11,13 +11,13 @@ use lib.Ieee.{Float, binary64, add}
 use Rattle.laws.specs.Loop.{visit}
 use Rattle.laws.specs.Sums.{sumZ}
 use Rattle.laws.specs.Scaled.{ofScaled, Holds}
-use Rattle.laws.specs.Sets.{In, Same, Apart}
+use Rattle.laws.specs.Sets.{In, NoDup, Same, Apart}
 use Rattle.laws.specs.FloatSums.{sumF}
 use Rattle.laws.specs.Law.{Limit, Held, Product, Positions, ExactSums}
 use Rattle.laws.proofs.Whole.{abs-add}
-use Rattle.laws.proofs.Sums.{list-append}
+use Rattle.laws.proofs.Sums.{sum-append}
 use Rattle.laws.proofs.Scaled.{scaled-zero, holds-scaled, add-scaled}
-use Rattle.laws.proofs.Sets.{length-within, sum-same-set, nodup-append}
+use Rattle.laws.proofs.Sets.{length-within, sum-same-set, in-append, nodup-append}
 
 -- the exact sum is no larger than so many of the largest product
 sum-le : {A : Type 0} (size : ℕ) (g : A → ℤ) (ps : List A) → ((p : A) → In p ps → natAbs (g p) ≤ size) → natAbs (sumZ (map g ps)) ≤ length ps * size
@@ -53,6 +53,9 @@ module _ (L : Limit) (H : Held L) {A : Type 0} (all : List A) (f : A → Float) 
   all-small : (ps : List A) → Positions all ps → natAbs (sumZ (map g ps)) ≤ 2 ^ 53
   all-small ps S = le-trans (sum-le (L .size) g ps (λ p m. P .small p (S .inside p m))) (count-le ps S)
 
+  value : (ps : List A) → Positions all ps → Holds (L .scale) (sumZ (map g ps)) (ofScaled (L .scale) (sumZ (map g ps)))
+  value ps S = holds-scaled (L .scale) (sumZ (map g ps)) (all-small ps S) (H .fine)
+
   exact : (ps : List A) → Positions all ps → sumF (map f ps) ≡ ofScaled (L .scale) (sumZ (map g ps))
   unfolding sumF
   exact ps S =
@@ -60,22 +63,23 @@ module _ (L : Limit) (H : Held L) {A : Type 0} (all : List A) (f : A → Float) 
       ∙ from-exact (L .scale) (L .size) (H .fine) f g (pos 0) ps (λ p m. P .small p (S .inside p m)) (λ p m. P .holds p (S .inside p m)) (le-trans (le-of-eq (zero-add (length ps * L .size))) (count-le ps S))
       ∙ ap (ofScaled (L .scale)) (+ℤ-idl (sumZ (map g ps)))
 
-  parts : (ps qs us : List A) → Positions all ps → Positions all qs → Positions all us → Apart ps qs → Same us (ps ++ qs)
+  parts : (ps qs us : List A) → Positions all ps → Positions all qs → Apart ps qs → NoDup us → Same us (ps ++ qs)
       → sumF (map f us) ≡ add binary64 (sumF (map f ps)) (sumF (map f qs))
-  parts ps qs us S T U d e =
-      exact us U
+  parts ps qs us S T d n e =
+      exact us (record { once = n; inside = λ p h. ⊎-elim (S .inside p) (T .inside p) (in-append p ps qs (e .0 p h)) })
       ∙ ap (ofScaled (L .scale))
-      (sum-same-set g us (ps ++ qs) (U .once) (nodup-append ps qs (S .once) (T .once) d) e
+      (sum-same-set g us (ps ++ qs) n (nodup-append ps qs (S .once) (T .once) d) e
       ∙ ap sumZ (map-append g ps qs)
-      ∙ list-append (map g ps) (map g qs))
-      ∙ sym (add-scaled (L .scale) (sumZ (map g ps)) (sumZ (map g qs)) (ofScaled (L .scale) (sumZ (map g qs))) (all-small ps S) (H .fine) (holds-scaled (L .scale) (sumZ (map g qs)) (all-small qs T) (H .fine)))
+      ∙ sum-append (map g ps) (map g qs))
+      ∙ sym (add-scaled (L .scale) (sumZ (map g ps)) (sumZ (map g qs)) (ofScaled (L .scale) (sumZ (map g qs))) (all-small ps S) (H .fine) (value qs T))
       ∙ (λ i. add binary64 (sym (exact ps S) i) (sym (exact qs T) i))
 
-  pub law-of-sums : ExactSums L all f g
-  law-of-sums = record {
-    exact = exact;
-    exact-value = λ ps S. subst (λ (x : Float). Holds (L .scale) (sumZ (map g ps)) x) (sym (exact ps S)) (holds-scaled (L .scale) (sumZ (map g ps)) (all-small ps S) (H .fine));
-    exact-zero = λ ps S e. exact ps S ∙ ap (ofScaled (L .scale)) e ∙ scaled-zero (L .scale);
-    any-order = λ ps qs S T e. exact ps S ∙ ap (ofScaled (L .scale)) (sum-same-set g ps qs (S .once) (T .once) e) ∙ sym (exact qs T);
-    parts = parts;
-  }
+-- Demand 3
+pub law-of-sums : (L : Limit) → Held L → {A : Type 0} (all : List A) (f : A → Float) (g : A → ℤ) → Product L all f g → ExactSums L all f g
+law-of-sums L H all f g P = record {
+  exact = exact L H all f g P;
+  exact-value = λ ps S. subst (λ (x : Float). Holds (L .scale) (sumZ (map g ps)) x) (sym (exact L H all f g P ps S)) (value L H all f g P ps S);
+  exact-zero = λ ps S e. exact L H all f g P ps S ∙ ap (ofScaled (L .scale)) e ∙ scaled-zero (L .scale);
+  any-order = λ ps qs S T e. exact L H all f g P ps S ∙ ap (ofScaled (L .scale)) (sum-same-set g ps qs (S .once) (T .once) e) ∙ sym (exact L H all f g P qs T);
+  parts = parts L H all f g P;
+}

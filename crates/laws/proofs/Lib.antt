@@ -12,3 +12,4 @@ pub mod FloatSums
 pub mod Law
 pub mod LoopLaw
 pub mod Limits
+pub mod SumCases

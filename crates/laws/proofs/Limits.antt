@@ -6,7 +6,8 @@ use native.Mathlib.Nat.{le-trans}
 use lib.Dec.{lit≤}
 use lib.IntN.{ℤ, _*ℤ_}
 use lib.Ieee.{Float, binary64, mul}
-use Rattle.laws.specs.Law.{Held, Product, ExactSums, factorLimit, frameLimit}
+use Rattle.laws.specs.Law.{Held, Product, ExactSums}
+use Rattle.laws.specs.FrameLimit.{factorLimit, frameLimit}
 use Rattle.laws.proofs.Whole.{abs-mul-le}
 use Rattle.laws.proofs.Scaled.{mul-holds}
 use Rattle.laws.proofs.Law.{law-of-sums}
@@ -31,7 +32,7 @@ frame-room = refl
 pub frame-law : {A : Type 0} (all : List A) (u v : A → Float) (x y : A → ℤ) → Product factorLimit all u x → Product factorLimit all v y
     → ExactSums frameLimit all (λ p. mul binary64 (u p) (v p)) (λ p. x p *ℤ y p)
 frame-law all u v x y P Q =
-    law-of-sums frameLimit frame-held all (λ p. mul binary64 (u p) (v p)) (λ p. x p *ℤ y p) (multiplied (2 ^ 24) 2 2 (2 ^ 14) (2 ^ 14) (lit≤ tt) (lit≤ tt) all u v x y P Q)
+    law-of-sums frameLimit frame-held all (λ p. mul binary64 (u p) (v p)) (λ p. x p *ℤ y p) (multiplied (4096 * 4096) 2 2 (4 * 2 ^ 12) (4 * 2 ^ 12) (lit≤ tt) (lit≤ tt) all u v x y P Q)
 
 -- the widest: 2 ^ 53 positions, each one of the finest parts
 pub widest-held : Held (record { scale = 1074; count = 2 ^ 53; size = 1 })

@@ -1,4 +1,4 @@
--- The law of sums where loops make the sum: over indexes below n, and over a window, row after row. Assumes nothing.
+-- The law of sums where loops make the sum: over indexes below n, and over a window or a plane, row after row. Assumes nothing.
 use mathlib.Core.Path.{_≡_, ap, _∙_}
 use mathlib.Core.List.{List}
 use Prim.Native.Nat.{ℕ, _-_, _*_, _≤_, _<_}
@@ -9,11 +9,10 @@ use Rattle.laws.specs.Loop.{loop}
 use Rattle.laws.specs.Table.{range}
 use Rattle.laws.specs.Window.{window, at}
 use Rattle.laws.specs.Sums.{sumTo, span}
-use Rattle.laws.specs.Scaled.{ofScaled, Holds}
+use Rattle.laws.specs.Scaled.{plusZero, ofScaled, Holds}
 use Rattle.laws.specs.Sets.{NoDup}
-use Rattle.laws.specs.FloatSums.{plusZero}
 use Rattle.laws.specs.Law.{Limit, Held, Product, Positions}
-use Rattle.laws.proofs.Sums.{sum-upto}
+use Rattle.laws.proofs.Sums.{sum-ext, span-zero, sum-upto}
 use Rattle.laws.proofs.Window.{in-range, range-nodup, length-range, in-window, window-nodup, length-window, sum-window}
 use Rattle.laws.proofs.FloatSums.{loop-sum, loops-sum}
 use Rattle.laws.proofs.Law.{law-of-sums}
@@ -50,3 +49,13 @@ module _ (L : Limit) (H : Held L) where
         small = λ p h. let k = in-window a b c d p h in small (p .0) (p .1) (k .0) (k .1) (k .2) (k .3);
         holds = λ p h. let k = in-window a b c d p h in holds (p .0) (p .1) (k .0) (k .1) (k .2) (k .3);
       }
+
+  pub plane-exact : (h w : ℕ) (f : ℕ → ℕ → Float) (g : ℕ → ℕ → ℤ) → h * w ≤ L .count
+      → ((r q : ℕ) → r < h → q < w → natAbs (g r q) ≤ L .size) → ((r q : ℕ) → r < h → q < w → Holds (L .scale) (g r q) (f r q))
+      → loop 0 h (λ r. loop 0 w (λ q s. add binary64 s (f r q))) plusZero ≡ ofScaled (L .scale) (sumTo (λ r. sumTo (g r) w) h)
+  plane-exact h w f g few small holds =
+      window-exact 0 h 0 w f g (le-trans (le-of-eq (λ i. sub-zero h i * sub-zero w i)) few) (λ r q a b c d. small r q b d) (λ r q a b c d. holds r q b d)
+      ∙ ap (ofScaled (L .scale))
+      ((λ i. span (λ r. span (g r) 0 (sub-zero w i)) 0 (sub-zero h i))
+      ∙ span-zero (λ r. span (g r) 0 w) h
+      ∙ sum-ext (λ r. span (g r) 0 w) (λ r. sumTo (g r) w) h (λ r l. span-zero (g r) w))

@@ -1,4 +1,5 @@
--- The laws of `ofScaled`: it is exact up to 2 ^ 53, and of such numbers so are sums, differences, products, squares and quotients by 2 ^ j. Each is the rounding of the exact result, by the signs. Assumes nothing.
+-- The laws of `ofScaled`: it is exact up to 2 ^ 53, and sums, differences, products, squares and quotients by 2 ^ j of such numbers are such numbers.
+-- Each operation is the rounding of the exact result, and the signs decide the rest. Assumes nothing.
 use mathlib.Core.Path.{_≡_, refl, sym, ap, _∙_, subst}
 use mathlib.Core.Bool.{Bool, true, false, not, cond, _&&_}
 use Prim.Native.Nat.{ℕ, zero, suc, _+_, _-_, _*_, _^_, _≤_, _<_}
@@ -8,10 +9,10 @@ use lib.IntN.{ℤ, pos, negsuc, negℤ, natAbs, _+ℤ_, _-ℤ_, _*ℤ_, +ℤ-idr
 use lib.Dec.{T, ltb, ltb→lt, nltb→le, le→leb, lt→ltb, lit≤}
 use lib.Pow.{pow-pos, pow-add}
 use lib.Signed.{nonNeg}
-use lib.Ieee.{Float, nan, inf, fin, binary64, unlike, up, down, round, sum, add, sub, mul, div, neg, ofInt, inFloat}
+use lib.Ieee.{Float, nan, inf, fin, binary64, unlike, up, down, round, sum, add, sub, mul, div, neg, ofInt, ofBits, inFloat}
 use lib.Ieee.Exact.{HasValue}
 use lib.Ieee.Scale.{round-same}
-use Rattle.laws.specs.Scaled.{ofScaled, signed, Holds}
+use Rattle.laws.specs.Scaled.{plusZero, ofScaled, signed, Holds}
 use Rattle.laws.proofs.Whole.{abs-mul}
 use Rattle.laws.proofs.Finite.{scaled-val, add-at, mul-at, div-at}
 
@@ -32,8 +33,8 @@ pub holds-scaled : (k : ℕ) (z : ℤ) → natAbs z ≤ 2 ^ 53 → k ≤ 1074 �
 holds-scaled k z h g = record { sign = negative z; size = natAbs z; whole = signed-abs z; value = scaled-value k z h g }
 
 -- plus zero
-pub scaled-zero : (k : ℕ) → ofScaled k (pos 0) ≡ fin false 0 (pos 0)
-unfolding ofScaled round
+pub scaled-zero : (k : ℕ) → ofScaled k (pos 0) ≡ plusZero
+unfolding ofScaled round ofBits
 scaled-zero k = round-same binary64 false 0 (2 ^ k) 0 1 (pow-pos k) (zero-lt-suc 0) (mul-one 0 ∙ sym (zero-mul (2 ^ k)))
 
 -- a whole number as f64: what a cast gives and asks for
@@ -173,7 +174,7 @@ square-scaled k a x v =
     alike true = refl
     alike false = refl
 
--- ---- the quotient by 2 ^ j, exact at any size
+-- ---- the quotient by 2 ^ j
 plain : (s : Bool) → unlike s false ≡ s
 plain true = refl
 plain false = refl

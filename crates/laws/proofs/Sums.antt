@@ -22,6 +22,9 @@ unfolding sumTo
 sum-ext f g zero h = refl
 sum-ext f g (suc n) h = λ j. sum-ext f g n (λ i l. h i (le-step l)) j +ℤ h n (lt-suc-self n) j
 
+pub span-zero : (g : ℕ → ℤ) (n : ℕ) → span g 0 n ≡ sumTo g n
+span-zero g n = sum-ext (λ i. g (0 + i)) g n (λ i l. ap g (zero-add i))
+
 -- the first a terms, and n terms after them
 pub sum-split : (g : ℕ → ℤ) (a n : ℕ) → sumTo g (a + n) ≡ sumTo g a +ℤ span g a n
 unfolding sumTo
@@ -87,19 +90,19 @@ sum-rows g w (suc h) =
     ∙ ap (λ (m : ℕ). sumTo g m) (sym (suc-mul h w))
 
 -- ---- the sum of a list
-pub list-append : (xs ys : List ℤ) → sumZ (xs ++ ys) ≡ sumZ xs +ℤ sumZ ys
+pub sum-append : (xs ys : List ℤ) → sumZ (xs ++ ys) ≡ sumZ xs +ℤ sumZ ys
 unfolding sumZ
-list-append [] ys = sym (+ℤ-idl (sumZ ys))
-list-append (x ∷ xs) ys = ap (λ (z : ℤ). x +ℤ z) (list-append xs ys) ∙ sym (+ℤ-assoc x (sumZ xs) (sumZ ys))
+sum-append [] ys = sym (+ℤ-idl (sumZ ys))
+sum-append (x ∷ xs) ys = ap (λ (z : ℤ). x +ℤ z) (sum-append xs ys) ∙ sym (+ℤ-assoc x (sumZ xs) (sumZ ys))
 
 pub sum-list : (g : ℕ → ℤ) (n : ℕ) → sumTo g n ≡ sumZ (tabulate n g)
 unfolding sumTo sumZ
 sum-list g zero = refl
-sum-list g (suc n) = (λ i. sum-list g n i +ℤ sym (+ℤ-idr (g n)) i) ∙ sym (list-append (tabulate n g) (g n ∷ []))
+sum-list g (suc n) = (λ i. sum-list g n i +ℤ sym (+ℤ-idr (g n)) i) ∙ sym (sum-append (tabulate n g) (g n ∷ []))
 
 pub sum-range : (g : ℕ → ℤ) (a b : ℕ) → sumZ (map g (range a b)) ≡ span g a (b - a)
 sum-range g a b = ap sumZ (map-tabulate g (b - a) (λ i. a + i)) ∙ sym (sum-list (λ i. g (a + i)) (b - a))
 
 pub sum-upto : (g : ℕ → ℤ) (n : ℕ) → sumZ (map g (range 0 n)) ≡ sumTo g n
 sum-upto g n =
-    sum-range g 0 n ∙ ap (λ (m : ℕ). span g 0 m) (sub-zero n) ∙ sum-ext (λ i. g (0 + i)) g n (λ i l. ap g (zero-add i))
+    sum-range g 0 n ∙ ap (λ (m : ℕ). span g 0 m) (sub-zero n) ∙ span-zero g n

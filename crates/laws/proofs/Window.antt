@@ -13,7 +13,7 @@ use Rattle.laws.specs.Sets.{In, NoDup, Apart}
 use Rattle.laws.specs.Sums.{sumZ, span}
 use Rattle.laws.proofs.Table.{length-tabulate}
 use Rattle.laws.proofs.Sets.{in-append, append-in, nodup-append}
-use Rattle.laws.proofs.Sums.{list-append, sum-range, sum-ext}
+use Rattle.laws.proofs.Sums.{sum-append, sum-range, sum-ext}
 
 -- ---- the numbers of a..b
 below : (a n i : ℕ) → In i (tabulate n (λ k. a + k)) → (a ≤ i) × (i < a + n)
@@ -115,7 +115,7 @@ unfolding sumZ
 sum-places g [] qs = refl
 sum-places g (r ∷ rs) qs =
     ap sumZ (map-append (at g) (map (place r) qs) (places rs qs))
-    ∙ list-append (map (at g) (map (place r) qs)) (map (at g) (places rs qs))
+    ∙ sum-append (map (at g) (map (place r) qs)) (map (at g) (places rs qs))
     ∙ (λ i. sumZ (map-map (at g) (place r) qs i) +ℤ sum-places g rs qs i)
 
 pub sum-window : (g : ℕ → ℕ → ℤ) (a b c d : ℕ) → sumZ (map (at g) (window a b c d)) ≡ span (λ r. span (g r) c (d - c)) a (b - a)

@@ -1,12 +1,8 @@
--- The sum in f64 as a program takes it: from the left, from plus zero, rounded at each step.
-use mathlib.Core.Bool.{false}
+-- "The f64 sum" as the Rust takes it: from plus zero, one term after another, rounded at each.
 use mathlib.Core.List.{List}
-use lib.IntN.{pos}
-use lib.Ieee.{Float, fin, binary64, add}
+use lib.Ieee.{Float, binary64, add}
 use Rattle.laws.specs.Loop.{visit}
-
-abbrev pub plusZero : Float
-plusZero = fin false 0 (pos 0)
+use Rattle.laws.specs.Scaled.{plusZero}
 
 -- `s = 0.0; for x in xs { s = s + x; }`
 unfoldable pub sumF : List Float → Float

@@ -6,9 +6,9 @@ use lib.IntN.{ℤ, pos, natAbs}
 use lib.ListN.{length}
 use lib.Ieee.{Float, binary64, add}
 use Rattle.laws.specs.Sums.{sumZ}
-use Rattle.laws.specs.Scaled.{ofScaled, Holds}
+use Rattle.laws.specs.Scaled.{plusZero, ofScaled, Holds}
 use Rattle.laws.specs.Sets.{In, NoDup, Within, Same, Apart}
-use Rattle.laws.specs.FloatSums.{plusZero, sumF}
+use Rattle.laws.specs.FloatSums.{sumF}
 
 -- ---- the premise
 -- Products are whole numbers of 2 ^ scale-ths, each at most `size` of them, at no more than `count` positions.
@@ -42,12 +42,5 @@ pub record ExactSums (L : Limit) {A : Type 0} (all : List A) (f : A → Float) (
   -- one set in two orders has one sum
   pub any-order : (ps qs : List A) → Positions all ps → Positions all qs → Same ps qs → sumF (map f ps) ≡ sumF (map f qs)
   -- the sum over two parts together, in any order, is the sums over the parts, added
-  pub parts : (ps qs us : List A) → Positions all ps → Positions all qs → Positions all us → Apart ps qs → Same us (ps ++ qs)
+  pub parts : (ps qs us : List A) → Positions all ps → Positions all qs → Apart ps qs → NoDup us → Same us (ps ++ qs)
       → sumF (map f us) ≡ add binary64 (sumF (map f ps)) (sumF (map f qs))
-
--- ---- document 01's limits: 4,096 × 4,096 places; a factor, which is a noise or an average of noises of samples below 2 ^ 12, in quarters; two factors multiplied, in sixteenths
-abbrev pub factorLimit : Limit
-factorLimit = record { scale = 2; count = 2 ^ 24; size = 2 ^ 14 }
-
-abbrev pub frameLimit : Limit
-frameLimit = record { scale = 4; count = 2 ^ 24; size = 2 ^ 28 }

@@ -7,3 +7,5 @@ pub mod Window
 pub mod Sets
 pub mod FloatSums
 pub mod Law
+pub mod FrameLimit
+pub mod SumCases

@@ -4,8 +4,12 @@ use mathlib.Core.Bool.{Bool, true, false, not}
 use Prim.Native.Nat.{ℕ, _^_}
 use lib.IntN.{ℤ, pos, negℤ, natAbs}
 use lib.Signed.{nonNeg}
-use lib.Ieee.{Float, binary64, round}
+use lib.Ieee.{Float, binary64, round, ofBits}
 use lib.Ieee.Exact.{HasValue}
+
+-- 0.0
+abbrev pub plusZero : Float
+plusZero = ofBits binary64 0x0
 
 -- the f64 value nearest to z / 2 ^ k: plus zero for 0, and at k = 0 what `z as f64` is
 unfoldable pub ofScaled : ℕ → ℤ → Float

@@ -1,4 +1,4 @@
--- Places of a plane, row after row: what `for r in a..b { for q in c..d { .. } }` visits.
+-- "A product's positions are the places where all its factors exist": a window of a plane, row after row, in the order of `for r in a..b { for q in c..d { .. } }`.
 use mathlib.Core.List.{List, [], _∷_, _++_, map}
 use Prim.Native.Nat.{ℕ}
 use Rattle.laws.specs.Table.{range}
