@@ -15,14 +15,13 @@ use Rattle.laws.specs.Scaled.{ofScaled, Holds}
 use Rattle.laws.proofs.Sums.{sum-bound}
 use Rattle.laws.proofs.Whole.{abs-mul}
 use Rattle.laws.proofs.Scaled.{holds-scaled, holds-finer, div-scaled}
-use Rattle.laws.proofs.LoopLaw.{window-exact}
+use Rattle.laws.proofs.LoopLaw.{plane-exact}
 use Rattle.noise.specs.Noise.{noise, noiseF}
 use Rattle.noise.specs.Average.{Luma, subX, subY, lumaPlace, plusZero, one, visited, averageF, quarters}
-use Rattle.noise.proofs.FromZero.{sum-grid}
 use Rattle.noise.proofs.FloatNoise.{noise-exact}
 
 -- 1, 2 or 4 luma noises, and 1.0 for each
-visits : (bx by : Bool) → ((cond by 1 0 + 1 - 0) * (cond bx 1 0 + 1 - 0) ≤ 4) × (cond bx 1 0 + cond by 1 0 ≤ 2)
+visits : (bx by : Bool) → ((cond by 1 0 + 1) * (cond bx 1 0 + 1) ≤ 4) × (cond bx 1 0 + cond by 1 0 ≤ 2)
     × HasValue (loop 0 (cond by 1 0 + 1) (λ i s. loop 0 (cond bx 1 0 + 1) (λ j s. add binary64 s one) s) plusZero) false (2 ^ (cond bx 1 0 + cond by 1 0)) 1
 unfolding loop turns ofBits add
 visits true true = (lit≤ tt, lit≤ tt, (refl, refl))
@@ -68,8 +67,7 @@ module _ (luma : Luma) (r c top : ℕ) (room : 4 * top ≤ 2 ^ 53)
       let v = visits (leb (luma .format) 2) (leb (luma .format) 1) in (
         le-trans (le-of-eq (abs-mul total (pos (2 ^ (2 - (subX (luma .format) + subY (luma .format))))))) (total-le .1),
         over-power (subX (luma .format) + subY (luma .format)) total _ _ (v .1) (le-trans (total-le .0) room)
-            (window-exact (record { scale = 0; count = 4; size = top }) (record { fine = lit≤ tt; room = room }) 0 (subY (luma .format) + 1) 0 (subX (luma .format) + 1)
-            (λ i j. noiseF (luma .source) (luma .denoised) (lumaPlace luma r c i j)) lumaNoise (v .0) (λ i j k l m n. one-exact i j .0) (λ i j k l m n. one-exact i j .1)
-            ∙ ap (ofScaled 0) (sum-grid lumaNoise (subY (luma .format) + 1) (subX (luma .format) + 1)))
+            (plane-exact (record { scale = 0; count = 4; size = top }) (record { fine = lit≤ tt; room = room }) (subY (luma .format) + 1) (subX (luma .format) + 1)
+            (λ i j. noiseF (luma .source) (luma .denoised) (lumaPlace luma r c i j)) lumaNoise (v .0) (λ i j k l. one-exact i j .0) (λ i j k l. one-exact i j .1))
             (v .2),
       )

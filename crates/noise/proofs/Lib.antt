@@ -1,4 +1,3 @@
-pub mod FromZero
 pub mod Loops
 pub mod FloatNoise
 pub mod FloatAverage

@@ -14,6 +14,7 @@ use Rattle.laws.specs.Scaled.{ofScaled}
 use Rattle.laws.specs.Window.{window}
 use Rattle.laws.specs.FloatSums.{sumF}
 use Rattle.laws.specs.Law.{Held}
+use Rattle.laws.proofs.Sums.{sum-ext, span-zero}
 use Rattle.laws.proofs.Window.{in-window, window-nodup, sum-window}
 use Rattle.laws.proofs.FloatSums.{loops-sum}
 use Rattle.noise.specs.Noise.{noise, noiseF, place}
@@ -21,7 +22,6 @@ use Rattle.noise.specs.Average.{plusZero}
 use Rattle.noise.specs.Products.{Pair, Factor, own, onward, Inside, Exists, reached, productF, exactly, scale}
 use Rattle.noise.specs.Claim.{Limited, limitOf, PositionsOf}
 use Rattle.noise.specs.Steps.{windowF, dotF, lagF}
-use Rattle.noise.proofs.FromZero.{sum-grid}
 use Rattle.noise.proofs.Loops.{loop-rows, loop-tested}
 use Rattle.noise.proofs.Products.{products-exact}
 
@@ -48,7 +48,12 @@ module _ (limit top : ℕ) (u v : Factor) (H : Held (limitOf limit top u v)) (S 
 
   -- counted from 0
   pub grid-sum : (h w : ℕ) → Everywhere u v 0 h 0 w → windowF u v 0 h 0 w ≡ ofScaled (scale u v) (sumTo (λ y. sumTo (λ x. exactly u v (y, x)) w) h)
-  grid-sum h w e = window-sum 0 h 0 w e ∙ ap (ofScaled (scale u v)) (sum-grid (λ y x. exactly u v (y, x)) h w)
+  grid-sum h w e =
+      window-sum 0 h 0 w e
+      ∙ ap (ofScaled (scale u v))
+      ((λ i. span (λ y. span (λ x. exactly u v (y, x)) 0 (sub-zero w i)) 0 (sub-zero h i))
+      ∙ span-zero (λ y. span (λ x. exactly u v (y, x)) 0 w) h
+      ∙ sum-ext (λ y. span (λ x. exactly u v (y, x)) 0 w) (λ y. sumTo (λ x. exactly u v (y, x)) w) h (λ y l. span-zero (λ x. exactly u v (y, x)) w))
 
 -- ---- a noise and the one `lag` columns on, of two planes of one shape
 pub own-place : (p : Pair) (r c : ℕ) → reached p (pos 0) (pos 0) (r, c) ≡ place (p .width) r c
