@@ -30,11 +30,11 @@ frameTop = 2 ^ 12
 abbrev pub limitOf : ℕ → ℕ → Factor → Factor → Limit
 limitOf limit top u v = record { scale = scale u v; count = limit; size = 2 ^ scale u v * (top * top) }
 
--- a set of the product's positions
+-- a set of a product's positions
 pub record PositionsOf (u v : Factor) (ps : List Place) : Type 0 where
   pub once : NoDup ps
   pub exist : (p : Place) → In p ps → Exists u p × Exists v p
 
--- the claim: of each set of its positions, each part of it and each order
+-- the claim, of any set of its positions: every set within it, in every order, has an exact sum, and two parts add up
 abbrev pub Exact : ℕ → ℕ → Factor → Factor → Type 0
 Exact limit top u v = (all : List Place) → PositionsOf u v all → ExactSums (limitOf limit top u v) all (productF u v) (exactly u v)

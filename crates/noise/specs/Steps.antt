@@ -1,4 +1,4 @@
--- The sums of noise products that the calls make, as the Rust adds them: from 0.0, in its order.
+-- "the sums of noise products that the calls make are cases of it": these sums as the Rust adds them, from 0.0, in its order.
 use mathlib.Core.Path.{_≡_}
 use mathlib.Core.Bool.{cond}
 use Prim.Native.Nat.{ℕ, _+_, _*_}
@@ -12,17 +12,17 @@ use Rattle.noise.specs.Noise.{noiseF, place}
 use Rattle.noise.specs.Average.{Luma, plusZero}
 use Rattle.noise.specs.Products.{Pair, Factor, noiseFrom, average, productF}
 
--- the fits, the chroma correlation, the energy of a row correlation: `for y in a..b { for x in c..d { sum += u * v; } }`
+-- the fits, the chroma correlation, the energy in `lag_h_rho`, the row correlation in `film_grain_probe`: `for y in a..b { for x in c..d { sum += u * v; } }`
 unfoldable pub windowF : Factor → Factor → ℕ → ℕ → ℕ → ℕ → Float
 unfolding loop
 windowF u v a b c d = loop a b (λ y. loop c d (λ x s. add binary64 s (productF u v (y, x)))) plusZero
 
--- the factors of a fit, whose window is rows lag to h - 1 and columns lag to w - lag - 1: noises at most `lag` rows up and `lag` columns to either side, the sample's own among them, and for chroma the luma average
+-- the factors of a fit, over rows lag..h and columns lag..w - lag: the noises up to `lag` rows above and `lag` columns to either side, the sample's own among them, and for chroma the luma average
 pub data InFit (plane : Pair) (lag : ℕ) : Factor → Type 0 where
   near : (dr dc : ℤ) → negℤ (pos lag) ≤ℤ dr → dr ≤ℤ pos 0 → negℤ (pos lag) ≤ℤ dc → dc ≤ℤ pos lag → InFit plane lag (noiseFrom plane dr dc)
   tap : (luma : Luma) → chromaHeight (luma .format) (luma .height) ≡ plane .height → chromaWidth (luma .format) (luma .width) ≡ plane .width → InFit plane lag (average luma)
 
--- the gates: `dot` of two noise vectors
+-- the gates: `dot` of two noise vectors, from plus zero
 unfoldable pub dotF : Pair → Pair → Float
 unfolding loop
 dotF a b =
@@ -30,7 +30,7 @@ dotF a b =
     (λ i s. add binary64 s (mul binary64 (noiseF (a .source) (a .denoised) i) (noiseF (b .source) (b .denoised) i)))
     plusZero
 
--- the row correlation: `for r in 0..h { for c in 0..w { if c + lag < w { lagsum += n[r * w + c] * n[r * w + c + lag]; } } }`
+-- the row correlation in `lag_h_rho`: `for r in 0..h { for c in 0..w { if c + lag < w { lagsum += n[r * w + c] * n[r * w + c + lag]; } } }`
 unfoldable pub lagF : Pair → ℕ → Float
 unfolding loop
 lagF p lag =
