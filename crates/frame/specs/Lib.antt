@@ -1,3 +1,5 @@
 pub mod Size
 pub mod Text
 pub mod Questions
+pub mod Calls
+pub mod Cases

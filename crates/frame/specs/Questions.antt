@@ -1,9 +1,8 @@
 -- "A call is asked, in this order, only about things it receives." A question is its answer, with the number that a refusal gives.
-use mathlib.Core.Bool.{Bool, true, false, _&&_, _||_}
-use mathlib.Core.List.{List, [], _∷_, _++_}
+use mathlib.Core.Bool.{Bool, true, cond, _&&_, _||_}
+use mathlib.Core.List.{List, [], _∷_}
 use Prim.Native.Nat.{ℕ, zero, suc, _*_, _^_}
 use lib.Dec.{leb, ltb, eqb}
-use lib.ListN.{length}
 use Rattle.frame.specs.Size.{chromaWidth, chromaHeight}
 use Rattle.frame.specs.declared.Shape.{Shape}
 
@@ -13,8 +12,7 @@ Question = Bool × ℕ
 -- the number of the first question whose answer is no; 0 where there is none
 abbrev pub firstNo : List Question → ℕ
 firstNo [] = 0
-firstNo ((true, n) ∷ qs) = firstNo qs
-firstNo ((false, n) ∷ qs) = n
+firstNo ((answer, n) ∷ qs) = cond answer (firstNo qs) n
 
 -- what a destination holds after a call that answers this number: the new contents where it is accepted, the old where it is refused
 abbrev pub accepted {ℓ} : {A : Type ℓ} → ℕ → A → A → A
@@ -32,17 +30,20 @@ low depth [] = true
 low depth (x ∷ xs) = ltb x (2 ^ depth) && low depth xs
 
 unfoldable pub allLow : ℕ → List (List ℕ) → Bool
-unfolding low
 allLow depth [] = true
 allLow depth (p ∷ ps) = low depth p && allLow depth ps
 
 -- ---- the questions
 
+-- the largest width and the largest height
+abbrev pub sideLimit : ℕ
+sideLimit = 4096
+
 -- Are width and height each at most 4,096? No: 1.
 abbrev pub small : ℕ → ℕ → Question
-small w h = (leb w 4096 && leb h 4096, 1)
+small w h = (leb w sideLimit && leb h sideLimit, 1)
 
--- In a frame call, are both at least 1? No: 2.
+-- In a frame call (profile, fit, chroma correlation, gate, frame denoise), are both at least 1? No: 2.
 abbrev pub present : ℕ → ℕ → Question
 present w h = (leb 1 w && leb 1 h, 2)
 
@@ -54,13 +55,18 @@ depthKnown depth = (eqb depth 8 || (eqb depth 10 || eqb depth 12), 3)
 abbrev pub formatKnown : ℕ → Question
 formatKnown format = (leb format 3, 4)
 
--- Has every lent plane, destinations included, exactly its number of samples? No: 5. The lengths of the planes of a lone size; and of the luma and the chroma planes of a frame.
+-- Has every lent plane, destinations included, exactly its number of samples? No: 5. Of planes of one size; and of the luma and the chroma planes of a frame. A plane stands by its length.
 abbrev pub filled : ℕ → ℕ → List ℕ → Question
 filled w h planes = (each (w * h) planes, 5)
 
+abbrev pub lumaSamples : Shape → ℕ
+lumaSamples s = s .width * s .height
+
+abbrev pub chromaSamples : Shape → ℕ
+chromaSamples s = chromaWidth (s .format) (s .width) * chromaHeight (s .format) (s .height)
+
 abbrev pub frameFilled : Shape → List ℕ → List ℕ → Question
-frameFilled s luma chroma =
-    (each (s .width * s .height) luma && each (chromaWidth (s .format) (s .width) * chromaHeight (s .format) (s .height)) chroma, 5)
+frameFilled s luma chroma = (each (lumaSamples s) luma && each (chromaSamples s) chroma, 5)
 
 -- In a call with a depth, is every source and denoised sample below 2^depth? No: 6.
 abbrev pub samplesLow : ℕ → List (List ℕ) → Question

@@ -2,10 +2,10 @@
 use mathlib.Core.Path.{_≡_, refl, sym, _∙_}
 use mathlib.Core.List.{List, [], _∷_, map, map-append}
 use mathlib.Core.Logic.{⊎-elim}
-use Prim.Native.Nat.{ℕ, zero, suc, _+_, _<_}
+use Prim.Native.Nat.{ℕ, zero, suc, _+_, _<_, _≤_}
 use native.Mathlib.Omega.{arith}
 use native.Mathlib.Numerals.{add-one}
-use native.Mathlib.Nat.{eq-or-lt-of-le, le-of-suc-le-suc, not-suc-le-zero}
+use native.Mathlib.Nat.{eq-or-lt-of-le, le-of-suc-le-suc, not-suc-le-zero, le-refl, le-trans, le-suc}
 use lib.ListN.{length, getD, take, set, length-append, List·getD-append}
 use lib.Seq.{getD-at, take-suc-set, take-all}
 use Rattle.laws.specs.Table.{tabulate}
@@ -34,6 +34,15 @@ module _ {ℓ} {A : Type ℓ} where
   -- the loop's end
   pub tabulate-whole : (l : List A) (n : ℕ) (f : ℕ → A) → length l ≡ n → take n l ≡ tabulate n f → l ≡ tabulate n f
   tabulate-whole l n f h p = sym (take-all n l (omega arith)) ∙ p
+
+  -- the same where the loop's test says that no turn is left
+  pub tabulate-ends : (l : List A) (k n : ℕ) (f : ℕ → A) → length l ≡ n → k ≤ n → n ≤ k → take k l ≡ tabulate k f → l ≡ tabulate n f
+  tabulate-ends l k n f h a b p = let e : k ≡ n = omega arith in tabulate-whole l n f h (tabulate-at l f k n e p)
+
+  -- two tables with equal entries
+  pub tabulate-same : (n : ℕ) (f g : ℕ → A) → ((i : ℕ) → i < n → f i ≡ g i) → tabulate n f ≡ tabulate n g
+  tabulate-same zero f g h = refl
+  tabulate-same (suc n) f g h = rw (tabulate-same n f g (λ i l. h i (le-trans l (le-suc n))), h n (le-refl (suc n)))
 
 pub map-tabulate {ℓ κ} : {A : Type ℓ} {B : Type κ} (g : A → B) (n : ℕ) (f : ℕ → A) → map g (tabulate n f) ≡ tabulate n (λ i. g (f i))
 map-tabulate g zero f = refl

@@ -7,3 +7,11 @@ pub mod Products
 pub mod Steps
 pub mod FitWindow
 pub mod Cases
+pub mod Fill
+pub mod Lines
+pub mod Shift
+pub mod BlockSums
+pub mod LineSums
+pub mod NoiseSums
+pub mod Grids
+pub mod Quarters

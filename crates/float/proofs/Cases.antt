@@ -1,0 +1,35 @@
+-- Every row of the tables holds, by computation. Assumes nothing.
+use mathlib.Core.Path.{refl}
+use Prim.Native.Nat.{ℕ}
+use lib.Ieee.{mul, div, round, ofInt, ofBits, toSigned, toUnsigned}
+use Rattle.laws.specs.Cases.{Right}
+use Rattle.float.specs.Round.{roundHalfAway}
+use Rattle.float.specs.Root.{root}
+use Rattle.float.specs.Steps.{quantAr, sigma16Of}
+use Rattle.float.specs.Coefficient.{coefficient}
+use Rattle.float.specs.Sigma.{wholeSigma16}
+use Rattle.float.specs.Cases.{sigmaCases, coefficientCases, rootCases, roundCases}
+
+pub sigma-cases-right : Right (λ (p : ℕ × ℕ). sigma16Of (p .0) (p .1)) sigmaCases
+unfolding sigma16Of mul div ofInt ofBits toUnsigned
+sigma-cases-right = (refl, (refl, (refl, (refl, (refl, (refl, tt))))))
+
+pub whole-sigma-cases-right : Right (λ (p : ℕ × ℕ). wholeSigma16 (p .0) (p .1)) sigmaCases
+unfolding wholeSigma16
+whole-sigma-cases-right = (refl, (refl, (refl, (refl, (refl, (refl, tt))))))
+
+pub quant-cases-right : Right quantAr coefficientCases
+unfolding quantAr mul ofBits toSigned
+quant-cases-right = (refl, (refl, (refl, (refl, (refl, (refl, (refl, tt)))))))
+
+pub coefficient-cases-right : Right coefficient coefficientCases
+unfolding coefficient
+coefficient-cases-right = (refl, (refl, (refl, (refl, (refl, (refl, (refl, tt)))))))
+
+pub root-cases-right : Right root rootCases
+unfolding root ofBits
+root-cases-right = (refl, (refl, (refl, (refl, (refl, (refl, (refl, (refl, (refl, (refl, tt))))))))))
+
+pub round-cases-right : Right roundHalfAway roundCases
+unfolding roundHalfAway round ofBits
+round-cases-right = (refl, (refl, (refl, (refl, (refl, (refl, (refl, (refl, (refl, (refl, (refl, tt)))))))))))

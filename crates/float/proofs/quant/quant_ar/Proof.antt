@@ -1,0 +1,30 @@
+-- `float::quant::quant_ar` meets its contract: the steps are the calls' results in turn. Assumes nothing.
+use mathlib.Core.Path.{ap, _∙_}
+use lib.IntN.{ℤ, pos, negℤ}
+use lib.Ieee.{toSigned}
+use mir.Syntax.{w32}
+use mir.ValLaws.{toZ-ofZ}
+use borrow.Author.Needs.{needs}
+use Rattle.float.specs.Clamp.{clampOf}
+use Rattle.float.specs.Steps.{quantAr}
+use Rattle.float.proofs.quant.quant_ar.Statement.{statement}
+use Rattle.float.proofs.quant.quant_ar.Tie as tie
+
+round-requires : tie.Need-round-requires
+round-requires c κs = search needs
+
+as-i32-requires : tie.Need-as-i32-requires
+as-i32-requires c κs = search needs
+
+clamp-requires : tie.Need-clamp-requires
+clamp-requires c κs = search needs
+
+returns : tie.Need-returns
+unfolding quantAr
+returns c =
+    toZ-ofZ w32 (c .clamp .result) (record { sfits = c .clamp .ok })
+    ∙ c .clamp .ensures
+    ∙ ap (λ (z : ℤ). clampOf z (negℤ (pos 128)) (pos 127)) (toZ-ofZ w32 (c .before .as-i32 .result) (record { sfits = c .before .as-i32 .ok }) ∙ c .before .as-i32 .ensures ∙ ap (toSigned 31) (c .before .before .round .ensures))
+
+pub quant-ar-spec : {M : Type 1} → statement M
+quant-ar-spec = tie.close (tie.spec round-requires as-i32-requires clamp-requires returns)

@@ -1,0 +1,89 @@
+-- The digit loop of `root_digits`, on plain numbers. After i turns q has the first i digits of the root of m × 2 ^ 52. Two digits of m go with each of them: those taken are q² + rest, and `left` has the others, at the top of 54 bits.
+-- * A digit is 1 exactly if (2q + 1)², the square with it, is no more than the digits taken: 4q + 1 ≤ 4 rest + the next two (`one-digit`, `zero-digit`).
+-- * Where nothing is left the other digits are zeros (`ended`).
+-- Assumes nothing.
+use mathlib.Core.Path.{_≡_, refl, sym, ap, _∙_}
+use Prim.Native.Nat.{ℕ, zero, suc, _+_, _-_, _*_, _/_, _%_, _^_, _≤_, _<_}
+use native.Mathlib.Nat.{add-sub-of-le, mod-eq-of-lt, mul-assoc, mul-right-comm, mul-mul-mul-comm, mul-one, pow-suc}
+use native.Mathlib.Numerals.{add-one}
+use native.Mathlib.Omega.{arith}
+use lib.Pow.{pow-mono, pow-add, shl-lt}
+use Rattle.float.specs.Root.{wholeRoot}
+use Rattle.float.proofs.WholeRoot.{root-unique, square-suc}
+
+pub record State (m q rest left i : ℕ) : Type 0 where
+  pub value : (q * q + rest) * 2 ^ 54 + left ≡ m * 4 ^ i
+  pub i-le : i ≤ 53
+  pub left-lt : left < 2 ^ 54
+  pub rest-le : rest ≤ 2 * q
+  pub q-lt : q < 2 ^ i
+  pub q-small : q < 2 ^ 53
+
+pub start : (m : ℕ) → m < 2 ^ 54 → State m 0 0 m 0
+start m h = record { value = omega (arith, mul-one m); i-le = omega arith; left-lt = h; rest-le = omega arith; q-lt = omega arith; q-small = omega arith }
+
+-- ---- a turn
+module _ (m q rest left i : ℕ) (st : State m q rest left i) (l : i < 53) where
+  even-square : q * 2 * (q * 2) ≡ q * q * 4
+  even-square = mul-mul-mul-comm q 2 q 2
+
+  odd-square : (q * 2 + 1) * (q * 2 + 1) ≡ q * q * 4 + 4 * q + 1
+  odd-square = ap (λ (x : ℕ). x * x) (add-one (q * 2)) ∙ square-suc (q * 2) ∙ omega (arith, even-square)
+
+  four-more : m * 4 ^ (i + 1) ≡ m * 4 ^ i * 4
+  four-more = rw (add-one i, pow-suc 4 i) (sym (mul-assoc m (4 ^ i) 4))
+
+  two-more : 2 ^ (i + 1) ≡ 2 ^ i * 2
+  two-more = rw (add-one i) (pow-suc 2 i)
+
+  small : 2 ^ (i + 1) ≤ 2 ^ 53
+  small = pow-mono {i = i + 1} {j = 53} (omega arith)
+
+  pub zero-digit : rest * 4 + left / 2 ^ 52 < q * 4 + 1 → State m (q * 2) (rest * 4 + left / 2 ^ 52) (left % 2 ^ 52 * 4) (i + 1)
+  zero-digit h = record {
+    value = omega (arith, even-square, four-more);
+    i-le = omega arith;
+    left-lt = omega arith;
+    rest-le = omega arith;
+    q-lt = omega (arith, two-more);
+    q-small = omega (arith, two-more, small);
+  }
+
+  pub one-digit : q * 4 + 1 ≤ rest * 4 + left / 2 ^ 52 → State m (q * 2 + 1) (rest * 4 + left / 2 ^ 52 - (q * 4 + 1)) (left % 2 ^ 52 * 4) (i + 1)
+  one-digit h = record {
+    value = omega (arith, odd-square, four-more);
+    i-le = omega arith;
+    left-lt = omega arith;
+    rest-le = omega arith;
+    q-lt = omega (arith, two-more);
+    q-small = omega (arith, two-more, small);
+  }
+
+-- ---- the end
+abbrev pub Root : ℕ → ℕ → ℕ → Type 0
+Root P q rest = (q ≡ wholeRoot P) × (rest ≡ P - q * q)
+
+is-root : (P q rest : ℕ) → q * q + rest ≡ P → rest ≤ 2 * q → Root P q rest
+is-root P q rest e l = (sym (root-unique P q (omega arith) (omega (arith, square-suc q))), omega arith)
+
+pub done : (m q rest left i : ℕ) → State m q rest left i → 53 ≤ i → Root (m * 2 ^ 52) q rest
+done m q rest left i st h =
+    let e : i ≡ 53 = omega arith in
+    let v : (q * q + rest) * 2 ^ 54 + left ≡ m * 4 ^ 53 = st .value ∙ ap (λ (x : ℕ). m * 4 ^ x) e in
+    is-root (m * 2 ^ 52) q rest (omega arith) (st .rest-le)
+
+four : (j : ℕ) → 2 ^ j * 2 ^ j ≡ 4 ^ j
+four zero = refl
+four (suc j) = rw (pow-suc 2 j, pow-suc 4 j, mul-mul-mul-comm (2 ^ j) 2 (2 ^ j) 2, four j)
+
+pub ended : (m q rest left i : ℕ) → State m q rest left i → rest + left ≡ 0 → Root (m * 2 ^ 52) (q * 2 ^ (53 - i) % 2 ^ 64) 0
+ended m q rest left i st e =
+    let j = 53 - i in
+    let ij : i + j ≡ 53 = add-sub-of-le (st .i-le) in
+    let under : q * 2 ^ j < 2 ^ 53 = rw ij at (shl-lt i j (st .q-lt)) in
+    let same : q * 2 ^ j % 2 ^ 64 ≡ q * 2 ^ j = mod-eq-of-lt (omega arith) in
+    let all : q * q * 2 ^ 54 ≡ m * 4 ^ i = omega (arith, st .value) in
+    let powers : 4 ^ i * 4 ^ j ≡ 2 ^ 106 = sym (pow-add 4 i j) ∙ ap (λ (x : ℕ). 4 ^ x) ij in
+    let square : q * 2 ^ j * (q * 2 ^ j) ≡ q * q * 4 ^ j = mul-mul-mul-comm q (2 ^ j) q (2 ^ j) ∙ ap (λ (x : ℕ). q * q * x) (four j) in
+    let scaled : q * q * 4 ^ j * 2 ^ 54 ≡ m * 2 ^ 106 = mul-right-comm (q * q) (4 ^ j) (2 ^ 54) ∙ ap (λ (x : ℕ). x * 4 ^ j) all ∙ mul-assoc m (4 ^ i) (4 ^ j) ∙ ap (λ (x : ℕ). m * x) powers in
+    rw same (is-root (m * 2 ^ 52) (q * 2 ^ j) 0 (omega arith) (omega arith))

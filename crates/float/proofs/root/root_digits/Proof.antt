@@ -1,0 +1,97 @@
+-- `float::root::root_digits` meets its contract. The invariant is the state after i turns, the measure what is left of 53. Assumes nothing.
+use mathlib.Core.Path.{sym, subst}
+use mathlib.Core.Logic.{⊎-elim}
+use Prim.Native.Nat.{ℕ, _+_, _-_, _*_, _%_, _^_}
+use native.Mathlib.Omega.{arith}
+use Rattle.float.proofs.root.Loop.{State, start, zero-digit, one-digit, ended, done}
+use Rattle.float.proofs.root.root_digits.Statement.{statement}
+use Rattle.float.proofs.root.root_digits.Tie as tie
+
+abbrev Inv-loop : tie.InvT-loop
+Inv-loop m q₀ rest₀ left₀ i₀ q rest left i = State m q rest left i
+
+abbrev μ-loop : tie.MeasureT-loop
+μ-loop m q₀ rest₀ left₀ i₀ q rest left i = 53 - i
+
+loop-holds : tie.Need-loop-holds Inv-loop μ-loop
+loop-holds c = start (c .args .m) (c .pre)
+
+add-if1 : tie.Need-add-if1 Inv-loop μ-loop
+add-if1 c = omega arith
+
+sub-filled : tie.Need-sub-filled Inv-loop μ-loop
+sub-filled c = omega arith
+
+shl-filled : tie.Need-shl-filled Inv-loop μ-loop
+shl-filled c = omega arith
+
+returns : tie.Need-returns Inv-loop μ-loop
+returns c =
+    let i = c .before .before .loop .i in
+    let q = c .before .before .loop .q in
+    ended (c .before .before .before .args .m) q (c .before .before .loop .rest) (c .before .before .loop .left) i (c .before .before .loop .inv) (c .if1 .taken)
+
+mul-rest : tie.Need-mul-rest Inv-loop μ-loop
+mul-rest c = omega arith
+
+add-rest : tie.Need-add-rest Inv-loop μ-loop
+add-rest c = omega arith
+
+mul-left : tie.Need-mul-left Inv-loop μ-loop
+mul-left c = omega arith
+
+mul-t : tie.Need-mul-t Inv-loop μ-loop
+mul-t c = omega arith
+
+add-t : tie.Need-add-t Inv-loop μ-loop
+add-t c = omega arith
+
+mul-q : tie.Need-mul-q Inv-loop μ-loop
+mul-q c = omega arith
+
+add-q : tie.Need-add-q Inv-loop μ-loop
+add-q c = omega arith
+
+add-i : tie.Need-add-i Inv-loop μ-loop
+add-i c = omega arith
+
+loop-less : tie.Need-loop-less Inv-loop μ-loop
+loop-less c = omega arith
+
+loop-again : tie.Need-loop-again Inv-loop μ-loop
+loop-again c =
+    let l = c .before .before .before .loop in
+    let m = c .before .before .before .before .args .m in
+    let i = l .i in
+    ⊎-elim
+    (λ w. rw (w .1, w .2) (one-digit m (l .q) (l .rest) (l .left) i (l .inv) (c .before .before .loop-test .taken) (w .0 .taken)))
+    (λ w. rw (w .1, w .2) (zero-digit m (l .q) (l .rest) (l .left) i (l .inv) (c .before .before .loop-test .taken) (w .0 .left)))
+    (c .if2 .came)
+
+returns-2 : tie.Need-returns-2 Inv-loop μ-loop
+returns-2 c =
+    let l = c .before .loop in
+    done (c .before .before .args .m) (l .q) (l .rest) (l .left) (l .i) (l .inv) (c .loop-test .left)
+
+pub root-digits-spec : {M : Type 1} → statement M
+root-digits-spec =
+    tie.close
+    (tie.spec
+    Inv-loop
+    μ-loop
+    loop-holds
+    add-if1
+    sub-filled
+    shl-filled
+    returns
+    mul-rest
+    add-rest
+    mul-left
+    mul-t
+    add-t
+    mul-q
+    add-q
+    add-i
+    loop-less
+    loop-again
+    returns-2)

@@ -1,0 +1,61 @@
+-- `float::sigma::sigma16` meets its contract: the steps are the calls' results in turn. Assumes nothing.
+use mathlib.Core.Path.{_≡_, ap, _∙_}
+use Prim.Native.Nat.{ℕ}
+use lib.IntN.{pos}
+use lib.Ieee.{Float, binary64, mul, div, ofInt, toUnsigned}
+use borrow.Author.Needs.{needs}
+use borrow.Author.Tests.{eq-eqb, ne-eqb}
+use Rattle.float.specs.Round.{roundHalfAway}
+use Rattle.float.specs.Root.{root}
+use Rattle.float.specs.Steps.{sixteen, deviation16, sigma16Of}
+use Rattle.float.proofs.sigma.sigma16.Statement.{statement}
+use Rattle.float.proofs.sigma.sigma16.Tie as tie
+
+none : (sq count : ℕ) → count ≡ 0 → 0 ≡ sigma16Of sq count
+unfolding sigma16Of
+none sq count e = rw (eq-eqb count 0 e)
+
+some : (sq count : ℕ) (a b z : Float) → (count ≡ 0 → ⊥) → a ≡ ofInt binary64 (pos sq) → b ≡ ofInt binary64 (pos count) → z ≡ root (div binary64 a b)
+    → toUnsigned 64 (roundHalfAway (mul binary64 z sixteen)) ≡ sigma16Of sq count
+unfolding sigma16Of deviation16
+some sq count a b z n ea eb ez = rw (ne-eqb count 0 n, ez, ea, eb)
+
+returns : tie.Need-returns
+returns c = none (c .before .args .sq) (c .before .args .count) (c .if1 .taken)
+
+nearest-u64-to-f64-requires : tie.Need-nearest-u64-to-f64-requires
+nearest-u64-to-f64-requires c κs = search needs
+
+nearest-u64-to-f64-requires-2 : tie.Need-nearest-u64-to-f64-requires-2
+nearest-u64-to-f64-requires-2 c κs = search needs
+
+sqrt-requires : tie.Need-sqrt-requires
+sqrt-requires c κs = search needs
+
+round-requires : tie.Need-round-requires
+round-requires c κs = search needs
+
+as-u64-requires : tie.Need-as-u64-requires
+as-u64-requires c κs = search needs
+
+returns-2 : tie.Need-returns-2
+returns-2 c =
+    let s = c .before .before in
+    let b = c .before .before .before in
+    let a = c .before .before .before .before in
+    let x = c .before .before .before .before .before .before .args in
+    c .as-u64 .ensures ∙ ap (toUnsigned 64) (c .before .round .ensures)
+    ∙ some (x .sq) (x .count) (a .nearest-u64-to-f64 .result) (b .nearest-u64-to-f642 .result) (s .sqrt .result)
+    (c .before .before .before .before .before .if1 .left) (a .nearest-u64-to-f64 .ensures) (b .nearest-u64-to-f642 .ensures) (s .sqrt .ensures)
+
+pub sigma16-spec : {M : Type 1} → statement M
+sigma16-spec =
+    tie.close
+    (tie.spec
+    returns
+    nearest-u64-to-f64-requires
+    nearest-u64-to-f64-requires-2
+    sqrt-requires
+    round-requires
+    as-u64-requires
+    returns-2)

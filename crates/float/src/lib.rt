@@ -1,0 +1,17 @@
+// What the Rust takes from f64 and i32, each function equal to its definition at every argument;
+// and by these the quantiser and sigma16.
+mod cast;
+mod quant;
+mod root;
+mod rounding;
+mod sigma;
+mod sign;
+
+pub use cast::as_i32;
+pub use cast::as_u64;
+pub use cast::clamp;
+pub use quant::quant_ar;
+pub use root::sqrt;
+pub use rounding::round;
+pub use sigma::sigma16;
+pub use sign::magnitude;

@@ -1,0 +1,127 @@
+// The correctly rounded root of an f64, digit by digit.
+ghost use mathlib.Core.Path.{_≡_};
+ghost use mathlib.Core.Bool.{false};
+ghost use Prim.Native.Nat.{_-_, _*_, _^_, _<_, _≤_};
+ghost use lib.Dec.{T};
+ghost use lib.Ieee.Exact.{HasValue};
+ghost use lib.Ieee.Positive.{positive};
+ghost use Rattle.float.specs.Root.{wholeRoot, root};
+
+// A root cut to a whole number, and the rest, what the number under the root has above its square.
+struct Digits {
+    root: u64,
+    rest: u64,
+}
+
+// The root of m * 2^52: its 53 binary digits one at a time, the highest first. It ends as soon as
+// nothing remains, and the other digits are zeros.
+fn root_digits(m: u64) -> Digits
+    requires { ⌜ m < 2 ^ 54 ⌝ }
+    ensures { λ r. ⌜ (r .root ≡ wholeRoot (m * 2 ^ 52)) × (r .rest ≡ m * 2 ^ 52 - r .root * r .root) ⌝ }
+{
+    let mut q = 0u64;
+    let mut rest = 0u64;
+    let mut left = m;
+    let mut i = 0u64;
+    while i < 53 {
+        if rest + left == 0 {
+            let filled = q << (53 - i);
+            return Digits {
+                root: filled,
+                rest: 0,
+            };
+        }
+        rest = rest * 4 + left / 4503599627370496;
+        left = left % 4503599627370496 * 4;
+        let t = q * 4 + 1;
+        q = q * 2;
+        if t <= rest {
+            rest = rest - t;
+            q = q + 1;
+        }
+        i = i + 1;
+    }
+    Digits { root: q, rest }
+}
+
+// The number m * 2^s.
+struct Scaled {
+    m: u64,
+    s: u64,
+}
+
+// m * 2^1074 with 53 digits before the power of two.
+fn leading(m: u64) -> Scaled
+    requires { ⌜ (0 < m) × (m < 2 ^ 52) ⌝ }
+    ensures { λ r. ⌜ (r .m * 2 ^ r .s ≡ m * 2 ^ 1074) × (2 ^ 52 ≤ r .m) × (r .m < 2 ^ 53) × (1022 ≤ r .s) × (r .s < 3120) ⌝ }
+{
+    let mut n = m;
+    let mut h = 0u64;
+    while n < 4503599627370496 {
+        n = n * 2;
+        h = h + 1;
+    }
+    Scaled { m: n, s: 1074 - h }
+}
+
+// x * 2^2148 with 53 digits before the power of two, from the fields of its bit pattern.
+fn unpacked(x: f64) -> Scaled
+    requires { ⌜ T (positive x) ⌝ }
+    ensures { λ r. ⌜ HasValue x false (r .m * 2 ^ r .s) (2 ^ 1074 * 2 ^ 1074) × (2 ^ 52 ≤ r .m) × (r .m < 2 ^ 53) × (1022 ≤ r .s) × (r .s < 3120) ⌝ }
+{
+    let b = f64::to_bits(x);
+    let e = b / 4503599627370496;
+    let t = b % 4503599627370496;
+    if e == 0 {
+        return leading(t);
+    }
+    Scaled {
+        m: t + 4503599627370496,
+        s: e + 1073,
+    }
+}
+
+// m * 2^s as a number times 4^s.
+fn even(m: u64, s: u64) -> Scaled
+    requires { ⌜ (2 ^ 52 ≤ m) × (m < 2 ^ 53) × (1022 ≤ s) × (s < 3120) ⌝ }
+    ensures { λ r. ⌜ (r .m * (2 ^ r .s * 2 ^ r .s) ≡ m * 2 ^ s) × (2 ^ 52 ≤ r .m) × (r .m < 2 ^ 54 - 1) × (511 ≤ r .s) × (r .s < 1560) ⌝ }
+{
+    if s % 2 == 0 {
+        Scaled { m, s: s / 2 }
+    } else {
+        Scaled { m: m * 2, s: s / 2 }
+    }
+}
+
+// The root of x, finite and above zero: 53 digits, rounded up where the rest is above them.
+fn positive_root(x: f64) -> f64
+    requires { ⌜ T (positive x) ⌝ }
+    ensures { λ r. ⌜ r ≡ root x ⌝ }
+{
+    let a = unpacked(x);
+    let b = even(a.m, a.s);
+    let d = root_digits(b.m);
+    let k = (b.s - 26) * 4503599627370496;
+    let q = d.root;
+    let rest = d.rest;
+    if q < rest {
+        return f64::from_bits(k + (q + 1));
+    }
+    f64::from_bits(k + q)
+}
+
+// The root of x, correctly rounded. Rust's `sqrt`.
+pub fn sqrt(x: f64) -> f64
+    ensures { λ r. ⌜ r ≡ root x ⌝ }
+{
+    if x > 0.0 {
+        if x < 1.0 / 0.0 {
+            return positive_root(x);
+        }
+        return x;
+    }
+    if x == 0.0 {
+        return x;
+    }
+    0.0 / 0.0
+}

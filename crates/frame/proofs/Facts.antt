@@ -1,0 +1,101 @@
+-- What a question that is answered yes tells: a fact about numbers for each test. Assumes nothing.
+use mathlib.Core.Path.{_≡_, refl, _∙_}
+use mathlib.Core.Bool.{Bool, true, false, _||_, and-eq-true-iff}
+use mathlib.Core.Logic.{_⊎_, inl, inr}
+use mathlib.Core.List.{List, [], _∷_}
+use Prim.Native.Nat.{ℕ, _≤_, _<_, _^_}
+use native.Mathlib.Nat.{lt-of-lt-of-le}
+use native.Mathlib.Omega.{arith}
+use lib.Dec.{leb, eqb}
+use lib.ListN.{length, getD}
+use lib.Pow.{pow-mono}
+use borrow.Author.Tests.{leb-true, eqb-true}
+use Rattle.frame.specs.declared.Shape.{Shape}
+use Rattle.frame.specs.Questions.{firstNo, sideLimit, small, depthKnown, each, low, allLow}
+use Rattle.frame.specs.Calls.{shapeQuestions}
+use Rattle.frame.proofs.Refusal.{passed}
+use Rattle.frame.proofs.Samples.{low-below}
+
+-- ---- the questions
+
+pub record Small (w h : ℕ) : Type 0 where
+  pub wide : w ≤ sideLimit
+  pub high : h ≤ sideLimit
+
+pub is-small : (w h : ℕ) → small w h .0 ≡ true → Small w h
+is-small w h e =
+    let p = and-eq-true-iff (leb w sideLimit) (leb h sideLimit) .0 e in
+    record { wide = leb-true w sideLimit (p .0); high = leb-true h sideLimit (p .1) }
+
+pub record Depth (d : ℕ) : Type 0 where
+  pub one-of : (d ≡ 8) ⊎ ((d ≡ 10) ⊎ (d ≡ 12))
+  pub least : 8 ≤ d
+  pub most : d ≤ 12
+
+is-one-of : (d : ℕ) (a b c : Bool) → eqb d 8 ≡ a → eqb d 10 ≡ b → eqb d 12 ≡ c → (a || (b || c)) ≡ true → (d ≡ 8) ⊎ ((d ≡ 10) ⊎ (d ≡ 12))
+is-one-of d true b c p q r e = inl (eqb-true d 8 p)
+is-one-of d false true c p q r e = inr (inl (eqb-true d 10 q))
+is-one-of d false false c p q r e = inr (inr (eqb-true d 12 (r ∙ e)))
+
+within : (d : ℕ) → (d ≡ 8) ⊎ ((d ≡ 10) ⊎ (d ≡ 12)) → (8 ≤ d) × (d ≤ 12)
+within d (inl e) = (omega arith, omega arith)
+within d (inr (inl e)) = (omega arith, omega arith)
+within d (inr (inr e)) = (omega arith, omega arith)
+
+pub is-depth : (d : ℕ) → depthKnown d .0 ≡ true → Depth d
+is-depth d e =
+    let o = is-one-of d (eqb d 8) (eqb d 10) (eqb d 12) refl refl refl e in
+    record { one-of = o; least = within d o .0; most = within d o .1 }
+
+pub record Known (s : Shape) : Type 0 where
+  pub size : Small (s .width) (s .height)
+  pub columns : 1 ≤ s .width
+  pub rows : 1 ≤ s .height
+  pub depth : Depth (s .depth)
+  pub format : s .format ≤ 3
+
+pub is-known : (s : Shape) → firstNo (shapeQuestions s) ≡ 0 → Known s
+unfolding shapeQuestions
+is-known s e =
+    let p = passed (shapeQuestions s) refl e in
+    let c = and-eq-true-iff (leb 1 (s .width)) (leb 1 (s .height)) .0 (p .1 .0) in
+    record {
+      size = is-small (s .width) (s .height) (p .0);
+      columns = leb-true 1 (s .width) (c .0);
+      rows = leb-true 1 (s .height) (c .1);
+      depth = is-depth (s .depth) (p .1 .1 .0);
+      format = leb-true (s .format) 3 (p .1 .1 .1 .0);
+    }
+
+-- each length is n
+abbrev pub Each : ℕ → List ℕ → Type 0
+Each n [] = Unit {0}
+Each n (l ∷ ls) = (l ≡ n) × Each n ls
+
+pub are-each : (n : ℕ) (ls : List ℕ) → each n ls ≡ true → Each n ls
+unfolding each
+are-each n [] e = tt
+are-each n (l ∷ ls) e =
+    let p = and-eq-true-iff (eqb l n) (each n ls) .0 e in
+    (eqb-true l n (p .0), are-each n ls (p .1))
+
+-- a plane of n samples, each below 2^depth
+pub record Plane (n depth : ℕ) (xs : List ℕ) : Type 0 where
+  pub samples : length xs ≡ n
+  pub below : (i : ℕ) → getD xs i 0 < 2 ^ depth
+  pub below-12 : (i : ℕ) → getD xs i 0 < 2 ^ 12
+
+pub is-plane : (n depth : ℕ) (xs : List ℕ) → depth ≤ 12 → length xs ≡ n → low depth xs ≡ true → Plane n depth xs
+is-plane n depth xs d l e =
+    let f = low-below depth xs e in
+    record { samples = l; below = f; below-12 = λ i. lt-of-lt-of-le (f i) (pow-mono d) }
+
+-- each plane passes
+abbrev pub Lows : ℕ → List (List ℕ) → Type 0
+Lows depth [] = Unit {0}
+Lows depth (p ∷ ps) = (low depth p ≡ true) × Lows depth ps
+
+pub are-low : (depth : ℕ) (ps : List (List ℕ)) → allLow depth ps ≡ true → Lows depth ps
+unfolding allLow
+are-low depth [] e = tt
+are-low depth (p ∷ ps) e = let b = and-eq-true-iff (low depth p) (allLow depth ps) .0 e in (b .0, are-low depth ps (b .1))

@@ -1,0 +1,8 @@
+pub mod Size
+pub mod Refusal
+pub mod Cause
+pub mod Samples
+pub mod Gathered
+pub mod Facts
+pub mod Accepted
+pub mod Cases

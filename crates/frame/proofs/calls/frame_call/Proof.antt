@@ -1,0 +1,58 @@
+-- `frame::calls::frame_call` meets its contract: the numbers first, and then the samples. Assumes nothing.
+use mathlib.Core.Path.{refl}
+use mathlib.Core.List.{[], _∷_, _++_, map}
+use lib.ListN.{length}
+use denote.Ref.{now}
+use Rattle.frame.specs.Questions.{samplesLow}
+use Rattle.frame.specs.Calls.{shapeQuestions, frameQuestions, copyQuestions, frameRefusal}
+use Rattle.frame.proofs.Refusal.{asked, stopped}
+use Rattle.frame.proofs.Samples.{low-both}
+use borrow.Author.Needs.{needs}
+use Rattle.frame.proofs.calls.frame_call.Statement.{statement}
+use Rattle.frame.proofs.calls.frame_call.Tie as tie
+
+frame-refusal-requires : tie.Need-frame-refusal-requires
+frame-refusal-requires c κs = search needs
+
+returns : tie.Need-returns
+unfolding frameRefusal copyQuestions frameQuestions shapeQuestions
+returns c =
+    let a = c .before .before .before .before .before .before .before .before .args in
+    let luma = now (a .y) ∷ now (a .y2) ∷ [] in
+    let chroma = now (a .cb) ∷ now (a .cr) ∷ now (a .cb2) ∷ now (a .cr2) ∷ [] in
+    let source = now (a .y) ∷ now (a .cb) ∷ now (a .cr) ∷ [] in
+    let copy = now (a .y2) ∷ now (a .cb2) ∷ now (a .cr2) ∷ [] in
+    stopped (frameQuestions (a .s) (map length luma) (map length chroma)) refl (c .before .frame-refusal .ensures)
+    (samplesLow (a .s .depth) (source ++ copy) ∷ []) (c .if1 .taken)
+
+frame-low-requires : tie.Need-frame-low-requires
+frame-low-requires c κs = search needs
+
+frame-low-requires-2 : tie.Need-frame-low-requires-2
+frame-low-requires-2 c κs = search needs
+
+ask-requires : tie.Need-ask-requires
+ask-requires c κs = search needs
+
+returns-2 : tie.Need-returns-2
+unfolding frameRefusal copyQuestions frameQuestions shapeQuestions
+returns-2 c =
+    let a = c .before .before .before .before .before .before .before .before .before .before .before .args in
+    let luma = now (a .y) ∷ now (a .y2) ∷ [] in
+    let chroma = now (a .cb) ∷ now (a .cr) ∷ now (a .cb2) ∷ now (a .cr2) ∷ [] in
+    let source = now (a .y) ∷ now (a .cb) ∷ now (a .cr) ∷ [] in
+    let copy = now (a .y2) ∷ now (a .cb2) ∷ now (a .cr2) ∷ [] in
+    asked (frameQuestions (a .s) (map length luma) (map length chroma)) refl (c .before .before .before .before .frame-refusal .ensures)
+    (samplesLow (a .s .depth) (source ++ copy)) (c .ask .ensures)
+    (low-both (a .s .depth) source copy (c .before .before .frame-low .ensures) (c .before .frame-low2 .ensures))
+
+pub frame-call-spec : {M : Type 1} → statement M
+frame-call-spec =
+    tie.close
+    (tie.spec
+    frame-refusal-requires
+    returns
+    frame-low-requires
+    frame-low-requires-2
+    ask-requires
+    returns-2)

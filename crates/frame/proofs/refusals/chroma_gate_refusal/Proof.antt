@@ -1,0 +1,51 @@
+-- `frame::refusals::chroma_gate_refusal` meets its contract: the shape first, and then the lengths against the size of an accepted shape. Assumes nothing.
+use mathlib.Core.Path.{refl, sym, _∙_}
+use mathlib.Core.List.{[], _∷_}
+use Rattle.frame.specs.Size.{chromaWidth, chromaHeight}
+use Rattle.frame.specs.Questions.{filled}
+use Rattle.frame.specs.Calls.{chromaQuestions, shapeQuestions}
+use Rattle.frame.proofs.Refusal.{asked, stopped}
+use Rattle.frame.proofs.Facts.{Known, is-known}
+use borrow.Author.Needs.{needs}
+use Rattle.frame.proofs.refusals.chroma_gate_refusal.Statement.{statement}
+use Rattle.frame.proofs.refusals.chroma_gate_refusal.Tie as tie
+
+shape-refusal-requires : tie.Need-shape-refusal-requires
+shape-refusal-requires c κs = search needs
+
+returns : tie.Need-returns
+unfolding chromaQuestions shapeQuestions
+returns c =
+    let a = c .before .before .args in
+    stopped (shapeQuestions (a .s)) refl (c .before .shape-refusal .ensures) (filled (chromaWidth (a .s .format) (a .s .width)) (chromaHeight (a .s .format) (a .s .height)) (a .a ∷ a .b ∷ a .c ∷ a .d ∷ []) ∷ []) (c .if1 .taken)
+
+-- past the questions about the shape
+known : (k : tie.Else1) → Known (k .before .before .args .s)
+known k = is-known (k .before .before .args .s) (sym (k .before .shape-refusal .ensures) ∙ k .if1 .left)
+
+chroma-samples-requires : tie.Need-chroma-samples-requires
+chroma-samples-requires c κs = let k = known c in (k .size .wide, k .size .high)
+
+four-are-requires : tie.Need-four-are-requires
+four-are-requires c κs = search needs
+
+ask-requires : tie.Need-ask-requires
+ask-requires c κs = search needs
+
+returns-2 : tie.Need-returns-2
+unfolding chromaQuestions shapeQuestions
+returns-2 c =
+    let a = c .before .before .before .before .before .args in
+    asked (shapeQuestions (a .s)) refl (c .before .before .before .before .shape-refusal .ensures) (filled (chromaWidth (a .s .format) (a .s .width)) (chromaHeight (a .s .format) (a .s .height)) (a .a ∷ a .b ∷ a .c ∷ a .d ∷ [])) (c .ask .ensures)
+    (rw (c .before .before .chroma-samples .ensures) at (c .before .four-are .ensures))
+
+pub chroma-gate-refusal-spec : {M : Type 1} → statement M
+chroma-gate-refusal-spec =
+    tie.close
+    (tie.spec
+    shape-refusal-requires
+    returns
+    chroma-samples-requires
+    four-are-requires
+    ask-requires
+    returns-2)

@@ -1,0 +1,100 @@
+-- `noise::blocks::dot_by` meets its contract: the accumulator holds the sum of the blocks passed. Assumes nothing.
+use mathlib.Core.Path.{_≡_, refl, sym, ap, _∙_}
+use Prim.Native.Nat.{ℕ, _+_, _-_, _≤_, _<_}
+use native.Mathlib.Omega.{arith}
+use borrow.Author.Needs.{needs}
+use lib.IntN.{ℤ, _+ℤ_, _*ℤ_}
+use lib.ListN.{length}
+use mir.Syntax.{w32, w64}
+use mir.Val.{ofZ, toZ}
+use Rattle.laws.specs.Sums.{sumTo, span}
+use Rattle.laws.proofs.Is.{Is, again, fits}
+use Rattle.noise.specs.Lines.{at, product}
+use Rattle.noise.proofs.BlockSums.{wide64, fewer, line-turn}
+use Rattle.noise.proofs.blocks.dot_by.Statement.{statement}
+use Rattle.noise.proofs.blocks.dot_by.Tie as tie
+
+abbrev Inv-loop : tie.InvT-loop
+Inv-loop p q size n sum₀ from₀ sum from = (n ≡ length p) × (from ≤ n) × (toZ w64 sum ≡ sumTo (product p q) from)
+
+abbrev μ-loop : tie.MeasureT-loop
+μ-loop p q size n sum₀ from₀ sum from = n - from
+
+loop-holds : tie.Need-loop-holds Inv-loop μ-loop
+unfolding sumTo
+loop-holds c = (refl, omega arith, refl)
+
+sub-loop : tie.Need-sub-loop Inv-loop μ-loop
+sub-loop c = search needs
+
+block-requires : tie.Need-block-requires Inv-loop μ-loop
+block-requires c κs = (c .before .before .pre .0, omega arith)
+
+cast-part : tie.Need-cast-part Inv-loop μ-loop
+cast-part c = fits (wide64 (c .block .result) (record { sfits = c .block .ok }))
+
+-- the sum with a block more
+added : (c : tie.After-block Inv-loop μ-loop) → let A = c .before .before .before .args in
+    let H = c .before .before .loop in
+    Is w64 (toZ w64 (H .sum) +ℤ toZ w64 (ofZ w64 (toZ w32 (ofZ w32 (c .block .result))))) (sumTo (product (A .p .now) (A .q .now)) (H .from + A .size))
+added c =
+    let S = c .before .before .before in
+    let H = c .before .before .loop in
+    line-turn (S .pre .0) (S .pre .1) (H .from) (S .args .size) (c .block .result) (omega arith) (H .inv .2) (record { sfits = c .block .ok }) (c .block .ensures)
+
+add-sum : tie.Need-add-sum Inv-loop μ-loop
+add-sum c = fits (added c)
+
+add-from : tie.Need-add-from Inv-loop μ-loop
+add-from c = search needs
+
+loop-less : tie.Need-loop-less Inv-loop μ-loop
+loop-less c = search needs
+
+loop-again : tie.Need-loop-again Inv-loop μ-loop
+loop-again c = (refl, omega arith, again (added c) .eq)
+
+sub-block : tie.Need-sub-block Inv-loop μ-loop
+sub-block c = search needs
+
+block-requires-2 : tie.Need-block-requires-2 Inv-loop μ-loop
+block-requires-2 c κs = (fewer _ (omega arith) (c .before .before .pre .0), omega arith)
+
+cast-rest : tie.Need-cast-rest Inv-loop μ-loop
+cast-rest c = fits (wide64 (c .block2 .result) (record { sfits = c .block2 .ok }))
+
+-- and with what is left
+finished : (c : tie.After-block2 Inv-loop μ-loop) → let A = c .before .before .before .args in
+    Is w64 (toZ w64 (c .before .before .loop .sum) +ℤ toZ w64 (ofZ w64 (toZ w32 (ofZ w32 (c .block2 .result))))) (sumTo (product (A .p .now) (A .q .now)) (length (A .p .now)))
+finished c =
+    let S = c .before .before .before in
+    let H = c .before .before .loop in
+    let n = length (S .args .p .now) in
+    let e : H .from + (n - H .from) ≡ n = omega arith in
+    rw e at (line-turn (S .pre .0) (S .pre .1) (H .from) (n - H .from) (c .block2 .result) (omega arith) (H .inv .2) (record { sfits = c .block2 .ok }) (c .block2 .ensures))
+
+add-result : tie.Need-add-result Inv-loop μ-loop
+add-result c = fits (finished c)
+
+returns : tie.Need-returns Inv-loop μ-loop
+returns c = again (finished c) .eq
+
+pub dot-by-spec : {M : Type 1} → statement M
+dot-by-spec =
+    tie.close
+    (tie.spec
+    Inv-loop
+    μ-loop
+    loop-holds
+    sub-loop
+    block-requires
+    cast-part
+    add-sum
+    add-from
+    loop-less
+    loop-again
+    sub-block
+    block-requires-2
+    cast-rest
+    add-result
+    returns)

@@ -1,0 +1,76 @@
+-- `noise::line::shifted_line` meets its contract: the places passed are filled with the shifted numbers. Assumes nothing.
+use mathlib.Core.Path.{_≡_, refl, sym}
+use Prim.Native.Nat.{ℕ, _+_, _*_, _-_, _≤_, _<_}
+use native.Mathlib.Omega.{arith}
+use borrow.Author.Needs.{needs}
+use lib.ListN.{length, length-set}
+use Rattle.laws.proofs.Is.{again}
+use Rattle.noise.specs.Shift.{shifted}
+use Rattle.noise.specs.Lines.{at}
+use Rattle.noise.proofs.Fill.{Filled, fill-starts, fill-turn, fill-ends}
+use Rattle.noise.proofs.Shift.{small-fits, shift-is}
+use Rattle.noise.proofs.line.shifted_line.Statement.{statement}
+use Rattle.noise.proofs.line.shifted_line.Tie as tie
+
+abbrev Inv-loop : tie.InvT-loop
+Inv-loop line shift out₀ i₀ out i = Filled (λ k. shifted shift (at line k)) out₀ out i
+
+abbrev μ-loop : tie.MeasureT-loop
+μ-loop line shift out₀ i₀ out i = length out - i
+
+loop-holds : tie.Need-loop-holds Inv-loop μ-loop
+loop-holds c = fill-starts _ _
+
+mul-x : tie.Need-mul-x Inv-loop μ-loop
+mul-x c = search needs
+
+shared-slice-copy-out-x : tie.Need-shared-slice-copy-out-x Inv-loop μ-loop
+shared-slice-copy-out-x c = search needs
+
+cast-out : tie.Need-cast-out Inv-loop μ-loop
+cast-out c = small-fits (c .before .before .before .pre .0)
+
+shr-out : tie.Need-shr-out Inv-loop μ-loop
+shr-out c = search needs
+
+mul-t6 : tie.Need-mul-t6 Inv-loop μ-loop
+mul-t6 c = search needs
+
+slice-set-from-out : tie.Need-slice-set-from-out Inv-loop μ-loop
+slice-set-from-out c = search needs
+
+add-i : tie.Need-add-i Inv-loop μ-loop
+add-i c = search needs
+
+loop-less : tie.Need-loop-less Inv-loop μ-loop
+loop-less c = simp length-set (omega arith)
+
+loop-again : tie.Need-loop-again Inv-loop μ-loop
+loop-again c =
+    let S = c .before .before .before in
+    fill-turn _ _ _ (c .before .before .loop .inv) (search needs) (again (shift-is (S .args .shift) (record { sfits = c .x .given })) .eq)
+
+same-length : tie.Need-same-length Inv-loop μ-loop
+same-length c = search needs
+
+returns : tie.Need-returns Inv-loop μ-loop
+returns c = fill-ends _ _ (c .before .loop .inv) (search needs)
+
+pub shifted-line-spec : {M : Type 1} → statement M
+shifted-line-spec =
+    tie.close
+    (tie.spec
+    Inv-loop
+    μ-loop
+    loop-holds
+    mul-x
+    shared-slice-copy-out-x
+    cast-out
+    shr-out
+    mul-t6
+    slice-set-from-out
+    add-i
+    loop-less
+    loop-again
+    same-length
+    returns)

@@ -1,0 +1,32 @@
+-- "noise vectors: noise worked out from two lent planes as needed": a line is a list of numbers, worked out from samples in even steps.
+use mathlib.Core.Path.{_≡_}
+use mathlib.Core.List.{List}
+use Prim.Native.Nat.{ℕ, _+_, _*_, _^_, _≤_, _<_}
+use lib.IntN.{ℤ, pos, natAbs, _*ℤ_}
+use lib.ListN.{length, getD}
+
+-- the number at place i of a line
+abbrev pub at : List ℤ → ℕ → ℤ
+at line i = getD line i (pos 0)
+
+-- the product of two lines at place i
+abbrev pub product : List ℤ → List ℤ → ℕ → ℤ
+product p q i = at p i *ℤ at q i
+
+-- every sample of a plane is below c
+abbrev pub Below : ℕ → List ℕ → Type 0
+Below c plane = (i : ℕ) → i < length plane → getD plane i 0 < c
+
+-- n places of two planes of one size, from start on, stride apart; every sample below a limit
+pub record Places (limit : ℕ) (source denoised : List ℕ) (start stride n : ℕ) : Type 0 where
+  pub same : length source ≡ length denoised
+  pub begins : start ≤ length source
+  pub inside : (i : ℕ) → i < n → start + i * stride < length source
+  pub source-low : Below limit source
+  pub denoised-low : Below limit denoised
+
+-- two lines of one length, whose products are so small that an i32 holds the sum of any `size` of them
+pub record Lines (size : ℕ) (p q : List ℤ) : Type 0 where
+  pub same : length p ≡ length q
+  pub few : length p ≤ 2 ^ 32
+  pub small : (i : ℕ) → i < length p → size * natAbs (product p q i) < 2 ^ 31

@@ -1,0 +1,5 @@
+pub mod Hints
+pub mod Moves
+pub mod Agree
+pub mod Draws
+pub mod Cases

@@ -1,0 +1,53 @@
+-- `random::register::RandomRegister::stepped` meets its contract: the code makes the Rust's steps, which give what the text says. Assumes nothing.
+use mathlib.Core.Path.{_≡_, refl, sym}
+use Prim.Native.Nat.{ℕ, _<_, _≤_, _*_, _/_, _%_, _^_}
+use native.Mathlib.Omega.{arith}
+use native.Mathlib.Nat.{div-one}
+use borrow.Author.Needs.{needs}
+use lib.Bits.{bitAnd, bitOr, bitXor}
+use lib.Pow.{pow-pos}
+use Rattle.random.specs.Steps.{shifted, result}
+use Rattle.random.proofs.Moves.{moved-lt}
+use Rattle.random.proofs.Agree.{shifted-is-moved, one-shl, answers-agree}
+use Rattle.random.proofs.Draws.{step-refused, step-accepted}
+use Rattle.random.proofs.register.RandomRegister.stepped.Statement.{statement}
+use Rattle.random.proofs.register.RandomRegister.stepped.Tie as tie
+
+returns : tie.Need-returns
+returns c = sym (step-refused (c .before .args .self) (c .before .args .bits) (c .if1 .taken))
+
+cast-r : tie.Need-cast-r
+cast-r c = search needs
+
+shr-top : tie.Need-shr-top
+shr-top c = search needs
+
+shl-top : tie.Need-shl-top
+shl-top c = search needs
+
+sub-top : tie.Need-sub-top
+sub-top c = let bits = c .before .before .args .bits in omega (arith, one-shl bits (search needs), pow-pos bits)
+
+-- the code shifts by tap 0 as well
+coded : (r : ℕ) → bitOr (r / 2 ^ 1) (bitAnd (bitXor (bitXor (bitXor (r / 2 ^ 0) (r / 2 ^ 1)) (r / 2 ^ 3)) (r / 2 ^ 12)) 1 * 2 ^ 15 % 2 ^ 32) ≡ shifted r
+unfolding shifted
+coded r = rw (div-one r)
+
+cast-state : tie.Need-cast-state
+cast-state c =
+    let r = c .before .before .args .self .state in
+    let h : r < 2 ^ 16 = search needs in
+    record { fits = rw (coded r, shifted-is-moved r h) (moved-lt r h) }
+
+returns-2 : tie.Need-returns-2
+unfolding result
+returns-2 c =
+    let g = c .before .before .args .self in
+    let r = g .state in
+    let bits = c .before .before .args .bits in
+    let h : r < 2 ^ 16 = search needs in
+    let l : bits ≤ 16 = search needs in
+    rw (coded r, answers-agree r bits h l, shifted-is-moved r h) (sym (step-accepted g bits l))
+
+pub stepped-spec : {M : Type 1} → statement M
+stepped-spec = tie.close (tie.spec returns cast-r shr-top shl-top sub-top cast-state returns-2)

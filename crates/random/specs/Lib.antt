@@ -1,0 +1,5 @@
+pub mod Seed
+pub mod Text
+pub mod Steps
+pub mod Register
+pub mod Cases

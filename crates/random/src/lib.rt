@@ -1,0 +1,8 @@
+// The seed of a frame's grain, and the random register that grain is drawn from.
+mod register;
+mod seed;
+
+pub use register::Draw;
+pub use register::RandomRegister;
+pub use register::Stepped;
+pub use seed::grain_seed_for;

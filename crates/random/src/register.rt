@@ -1,0 +1,68 @@
+// The random register of 7.18.3.2.
+ghost use mathlib.Core.Path.{_≡_};
+ghost use Rattle.random.specs.Register.{step};
+
+pub struct RandomRegister {
+    pub state: u16,
+}
+
+// What a register answers: the number of a refusal, or the bits drawn.
+pub enum Draw {
+    Refused(u32),
+    Value(u32),
+}
+
+// A draw, with the register after it.
+pub struct Stepped {
+    pub draw: Draw,
+    pub register: RandomRegister,
+}
+
+impl RandomRegister {
+    // The bits whose xor is the new bit.
+    pub const TAP_A: u32 = 0;
+
+    pub const TAP_B: u32 = 1;
+
+    pub const TAP_C: u32 = 3;
+
+    pub const TAP_D: u32 = 12;
+
+    // The bit where the new bit enters.
+    pub const ENTRY: u32 = 15;
+
+    // The bits that it holds.
+    pub const WIDTH: u32 = 16;
+
+    // The register that holds the seed.
+    pub fn new(seed: u16) -> Self
+        ensures { λ r. ⌜ r .state ≡ seed ⌝ }
+    {
+        Self { state: seed }
+    }
+
+    // The top bits asked for of the register after a step: r >> 1, with the taps' xor at bit 15. Above 16 bits: 9, and the register as it was.
+    pub fn stepped(self, bits: u32) -> Stepped
+        ensures { λ r. ⌜ r ≡ step self bits ⌝ }
+    {
+        if Self::WIDTH < bits {
+            return Stepped {
+                draw: Draw::Refused(9),
+                register: self,
+            };
+        }
+        let r = self.state as u32;
+        let bit = ((r >> Self::TAP_A)
+            ^ (r >> Self::TAP_B)
+            ^ (r >> Self::TAP_C)
+            ^ (r >> Self::TAP_D))
+            & 1;
+        let moved = (r >> 1) | (bit << Self::ENTRY);
+        let top = (moved >> (Self::WIDTH - bits)) & ((1u32 << bits) - 1);
+        let state = moved as u16;
+        Stepped {
+            draw: Draw::Value(top),
+            register: RandomRegister { state },
+        }
+    }
+}
