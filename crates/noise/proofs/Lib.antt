@@ -1,3 +1,12 @@
+pub mod Loops
+pub mod FloatNoise
+pub mod FloatAverage
+pub mod Factors
+pub mod Count
+pub mod Products
+pub mod Steps
+pub mod FitWindow
+pub mod Cases
 pub mod Fill
 pub mod Lines
 pub mod Shift

@@ -1,6 +1,10 @@
 pub mod Noise
 pub mod Shift
 pub mod Average
+pub mod Products
+pub mod Claim
+pub mod Steps
+pub mod Cases
 pub mod Lines
 pub mod Grids
 pub mod Quarters

@@ -1,0 +1,110 @@
+-- Demand 3: at each position the f64 product is exactly the product in ones or sixteenths, and there are no more positions than samples, so that the law of sums holds. Assumes nothing.
+use mathlib.Core.Path.{_≡_, sym, subst}
+use mathlib.Core.List.{List, [], _∷_}
+use Prim.Native.Nat.{ℕ, zero, suc, _+_, _*_, _^_, _≤_, _<_, zero-le}
+use native.Mathlib.Nat.{le-trans, le-of-eq, le-refl, lt-of-lt-of-le, zero-lt-suc, add-le-add, mul-zero, mul-pos, mul-comm, mul-le-mul, mul-mul-mul-comm, le-mul-of-pos-right}
+use native.Mathlib.Omega.{arith}
+use lib.Dec.{lit≤}
+use lib.IntN.{ℤ, pos, _*ℤ_}
+use lib.ListN.{length, getD}
+use lib.Pow.{pow-pos, pow-mono}
+use lib.Ieee.{Float}
+use Rattle.laws.specs.Window.{Place}
+use Rattle.laws.specs.Sets.{In}
+use Rattle.laws.specs.Law.{Held, Product}
+use Rattle.laws.proofs.Whole.{abs-mul-le}
+use Rattle.laws.proofs.Scaled.{holds-finer}
+use Rattle.laws.proofs.Limits.{multiplied}
+use Rattle.laws.proofs.Law.{law-of-sums}
+use Rattle.noise.specs.Average.{quarters}
+use Rattle.noise.specs.Products.{Factor, noiseFrom, average, Exists, floatAt, productF, whole, exactly, scale}
+use Rattle.noise.specs.Claim.{Samples, Limited, frameSamples, frameTop, limitOf, Exact}
+use Rattle.noise.proofs.Count.{places-few}
+use Rattle.noise.proofs.Factors.{fine, parts, factor-exact}
+
+-- f64 holds each of the numbers whose sum it holds, and each factor of a product that it holds
+one-held : (limit n : ℕ) → 0 < limit → limit * n ≤ 2 ^ 53 → n ≤ 2 ^ 53
+one-held limit n h k = le-trans (le-mul-of-pos-right n h) (le-trans (le-of-eq (mul-comm n limit)) k)
+
+factor-held : (m n t : ℕ) → 0 < n → m * t ≤ m * t * (n * t)
+factor-held m n zero h = le-trans (le-of-eq (mul-zero m)) zero-le
+factor-held m n (suc t) h = le-mul-of-pos-right (m * suc t) (mul-pos h (zero-lt-suc t))
+
+fourfold : (n : ℕ) → 4 * n * 4 ≡ 16 * n
+fourfold n = omega arith
+
+fourth-held : (n : ℕ) → 16 * n ≤ 2 ^ 53 → 4 * n ≤ 2 ^ 53
+fourth-held n h = omega arith
+
+fine-le : (u : Factor) → fine u ≤ 2
+fine-le (noiseFrom plane dr dc) = lit≤ tt
+fine-le (average luma) = lit≤ tt
+
+module _ (limit top : ℕ) (all : List Place) (few : length all ≤ limit) where
+  -- a factor at its positions
+  factor : (u : Factor) → Limited limit top u → ((p : Place) → In p all → Exists u p) → 2 ^ fine u * top ≤ 2 ^ 53
+      → Product (record { scale = fine u; count = limit; size = 2 ^ fine u * top }) all (floatAt u) (parts u)
+  factor u S e room = record {
+    few = few;
+    small = λ p h. factor-exact limit top u p S (e p h) room .0;
+    holds = λ p h. factor-exact limit top u p S (e p h) room .1;
+  }
+
+  module _ (u v : Factor) (S : Limited limit top u) (T : Limited limit top v) (e : (p : Place) → In p all → Exists u p × Exists v p) where
+    -- two factors, in the parts that they have
+    both : 2 ^ fine u * 2 ^ fine v * (top * top) ≤ 2 ^ 53
+        → Product (record { scale = fine u + fine v; count = limit; size = 2 ^ fine u * 2 ^ fine v * (top * top) }) all (productF u v) (λ p. parts u p *ℤ parts v p)
+    both room =
+        let q : 2 ^ fine u * 2 ^ fine v * (top * top) ≡ 2 ^ fine u * top * (2 ^ fine v * top) = sym (mul-mul-mul-comm (2 ^ fine u) top (2 ^ fine v) top) in
+        let r : 2 ^ fine u * top * (2 ^ fine v * top) ≤ 2 ^ 53 = le-trans (le-of-eq (sym q)) room in
+        let r′ : 2 ^ fine v * top * (2 ^ fine u * top) ≤ 2 ^ 53 = le-trans (le-of-eq (mul-comm (2 ^ fine v * top) (2 ^ fine u * top))) r in
+        subst (λ (n : ℕ). Product (record { scale = fine u + fine v; count = limit; size = n }) all (productF u v) (λ p. parts u p *ℤ parts v p)) (sym q)
+        (multiplied limit (fine u) (fine v) (2 ^ fine u * top) (2 ^ fine v * top) (le-trans (add-le-add (fine-le u) (fine-le v)) (lit≤ tt)) r all (floatAt u) (floatAt v) (parts u) (parts v)
+        (factor u S (λ p h. e p h .0) (le-trans (factor-held (2 ^ fine u) (2 ^ fine v) top (pow-pos (fine v))) r))
+        (factor v T (λ p h. e p h .1) (le-trans (factor-held (2 ^ fine v) (2 ^ fine u) top (pow-pos (fine u))) r′)))
+
+  -- quarters, as sixteenths
+  four-each : (f : Place → Float) (g : Place → ℤ) → Product (record { scale = 2; count = limit; size = 4 * (top * top) }) all f g
+      → Product (record { scale = 4; count = limit; size = 16 * (top * top) }) all f (λ p. g p *ℤ pos 4)
+  four-each f g P = record {
+    few = few;
+    small = λ p h. le-trans (abs-mul-le (g p) (pos 4) (4 * (top * top)) 4 (P .small p h) (le-refl 4)) (le-of-eq (fourfold (top * top)));
+    holds = λ p h. holds-finer 2 2 (g p) (f p) (P .holds p h);
+  }
+
+  product : (u v : Factor) → Limited limit top u → Limited limit top v → ((p : Place) → In p all → Exists u p × Exists v p) → 2 ^ scale u v * (top * top) ≤ 2 ^ 53
+      → Product (limitOf limit top u v) all (productF u v) (exactly u v)
+  product (noiseFrom a dr dc) (noiseFrom b er ec) S T e room = both (noiseFrom a dr dc) (noiseFrom b er ec) S T e room
+  product (noiseFrom a dr dc) (average m) S T e room =
+      four-each (productF (noiseFrom a dr dc) (average m)) (λ p. whole a dr dc p *ℤ quarters m (p .0) (p .1)) (both (noiseFrom a dr dc) (average m) S T e (fourth-held (top * top) room))
+  product (average l) (noiseFrom b er ec) S T e room =
+      four-each (productF (average l) (noiseFrom b er ec)) (λ p. quarters l (p .0) (p .1) *ℤ whole b er ec p) (both (average l) (noiseFrom b er ec) S T e (fourth-held (top * top) room))
+  product (average l) (average m) S T e room = both (average l) (average m) S T e room
+
+-- ---- the claim, for any limit whose sums f64 holds
+pub products-exact : (limit top : ℕ) (u v : Factor) → Held (limitOf limit top u v) → Limited limit top u → Limited limit top v → Exact limit top u v
+products-exact limit top u v H S T [] P =
+    law-of-sums (limitOf limit top u v) H [] (productF u v) (exactly u v) (record { few = zero-le; small = λ p h. absurd h; holds = λ p h. absurd h })
+products-exact limit top u v H S T (p ∷ ps) P =
+    let f : length (p ∷ ps) ≤ limit = places-few limit top u (p ∷ ps) S (P .once) (λ q h. P .exist q h .0) in
+    law-of-sums (limitOf limit top u v) H (p ∷ ps) (productF u v) (exactly u v)
+    (product limit top (p ∷ ps) f u v S T (P .exist) (one-held limit (2 ^ scale u v * (top * top)) (lt-of-lt-of-le (zero-lt-suc (length ps)) f) (H .room)))
+
+-- ---- "(At most 4,096×4,096 samples below 2^12.)"
+pub frame-held : (u v : Factor) → Held (limitOf frameSamples frameTop u v)
+frame-held (noiseFrom a dr dc) (noiseFrom b er ec) = record { fine = lit≤ tt; room = lit≤ tt }
+frame-held (noiseFrom a dr dc) (average m) = record { fine = lit≤ tt; room = lit≤ tt }
+frame-held (average l) (noiseFrom b er ec) = record { fine = lit≤ tt; room = lit≤ tt }
+frame-held (average l) (average m) = record { fine = lit≤ tt; room = lit≤ tt }
+
+pub frame-products-exact : (u v : Factor) → Limited frameSamples frameTop u → Limited frameSamples frameTop v → Exact frameSamples frameTop u v
+frame-products-exact u v S T = products-exact frameSamples frameTop u v (frame-held u v) S T
+
+-- planes that every question lets pass
+pub frame-samples : (w h depth : ℕ) (source denoised : List ℕ) → w ≤ 4096 → h ≤ 4096 → depth ≤ 12
+    → ((i : ℕ) → i < w * h → getD source i 0 < 2 ^ depth) → ((i : ℕ) → i < w * h → getD denoised i 0 < 2 ^ depth) → Samples frameSamples frameTop source denoised (w * h)
+frame-samples w h depth source denoised k l m a b = record {
+  few = mul-le-mul k l;
+  lowSource = λ i j. lt-of-lt-of-le (a i j) (pow-mono m);
+  lowDenoised = λ i j. lt-of-lt-of-le (b i j) (pow-mono m);
+}
