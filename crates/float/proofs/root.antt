@@ -3,5 +3,6 @@ pub mod Loop
 pub mod Pattern
 pub mod Normal
 pub mod Split
+pub mod Closest
 pub mod Rounded
 pub mod Bits
