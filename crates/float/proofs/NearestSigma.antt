@@ -9,14 +9,14 @@ use mathlib.Core.List.{List, [], _∷_}
 use Prim.Native.Nat.{ℕ, zero, suc, _+_, _-_, _*_, _/_, _^_, _≤_, _<_, min, zero-le}
 use native.Mathlib.Nat.{le-trans, le-of-eq, le-of-suc-le-suc, lt-of-lt-of-le, lt-of-not-le, not-le-of-lt, mul-right-comm, mul-mul-mul-comm, mul-le-mul, mul-le-mul-right, mul-pos, suc-mul, zero-mul, eq-zero-or-pos, le-of-mul-le-mul-right}
 use native.Mathlib.Omega.{arith}
-use mathlib.Core.Bool.{true, false, _&&_}
+use mathlib.Core.Bool.{true, false}
 use lib.IntN.{ℤ, pos, negsuc, negℤ, natAbs}
-use lib.Signed.{leZ}
-use lib.Dec.{T, leb, leb→le, lit<, lit≤}
+use lib.Signed.{_≤ℤ_}
+use lib.Dec.{T, leb→le, lit<, lit≤}
 use lib.Pow.{pow-pos}
 use lib.Ieee.{Float, nan, inf, fin, binary64, up, down, round, mul, ofBits, fits, le, toUnsigned}
 use lib.ListN.{length}
-use lib.Ieee.Fits.{down-pos, mul-fits, and-l, and-r}
+use lib.Ieee.Fits.{down-pos, mul-fits}
 use lib.Ieee.Order.{round-mono}
 use lib.Ieee.Scale.{round-same}
 use lib.Ieee.Positive.{num, den, den-pos, positive}
@@ -24,7 +24,7 @@ use borrow.Author.Tests.{ne-eqb}
 use Rattle.float.specs.Round.{halfUp, roundHalfAway, NearestWhole}
 use Rattle.float.specs.Root.{root}
 use Rattle.float.specs.Steps.{deviation16, sigma16Of}
-use Rattle.float.specs.Sigma.{Nearest16, wholeSigma16, sumOfSquares, eachSmall}
+use Rattle.float.specs.Sigma.{Nearest16, wholeSigma16, sumOfSquares, EachSmall}
 use Rattle.float.proofs.Units.{fit}
 use Rattle.float.proofs.Times.{times-exact}
 use Rattle.float.proofs.Cut.{unsigned-cut}
@@ -199,16 +199,14 @@ pub sigma16-whole : (s n : ℕ) → 0 < n → n ≤ 2 ^ 24 → s ≤ 65536 * n �
 sigma16-whole s n N h l = nearest16-unique s n (sigma16Of s n) (wholeSigma16 s n) (sigma16-nearest s n N h l) (whole-sigma16-nearest s n N)
 
 -- ---- each d from −256 to 255
-small-square : (d : ℤ) → T (leZ (negℤ (pos 256)) d && leZ d (pos 255)) → natAbs d * natAbs d ≤ 65536
-small-square (pos n) t = let l : n ≤ 256 = omega (arith, leb→le n 255 t) in mul-le-mul l l
-small-square (negsuc n) t = let l : suc n ≤ 256 = omega (arith, leb→le n 255 (and-l (leb n 255) true t)) in mul-le-mul l l
+small-square : (d : ℤ) → negℤ (pos 256) ≤ℤ d → d ≤ℤ pos 255 → natAbs d * natAbs d ≤ 65536
+small-square (pos n) lo hi = let l : n ≤ 256 = omega (arith, leb→le n 255 (hi .le)) in mul-le-mul l l
+small-square (negsuc n) lo hi = let l : suc n ≤ 256 = omega (arith, leb→le n 255 (lo .le)) in mul-le-mul l l
 
-small-sum : (ds : List ℤ) → T (eachSmall ds) → sumOfSquares ds ≤ 65536 * length ds
-unfolding sumOfSquares eachSmall
+small-sum : (ds : List ℤ) → EachSmall ds → sumOfSquares ds ≤ 65536 * length ds
+unfolding sumOfSquares
 small-sum [] t = zero-le
-small-sum (d ∷ ds) t =
-    let own = leZ (negℤ (pos 256)) d && leZ d (pos 255) in
-    omega (arith, small-square d (and-l own (eachSmall ds) t), small-sum ds (and-r own (eachSmall ds) t))
+small-sum (d ∷ ds) t = omega (arith, small-square d (t .0) (t .1), small-sum ds (t .2))
 
-pub sigma16-of-noise : (ds : List ℤ) → 0 < length ds → length ds ≤ 2 ^ 24 → T (eachSmall ds) → Nearest16 (sumOfSquares ds) (length ds) (sigma16Of (sumOfSquares ds) (length ds))
+pub sigma16-of-noise : (ds : List ℤ) → 0 < length ds → length ds ≤ 2 ^ 24 → EachSmall ds → Nearest16 (sumOfSquares ds) (length ds) (sigma16Of (sumOfSquares ds) (length ds))
 sigma16-of-noise ds N h t = sigma16-nearest (sumOfSquares ds) (length ds) N h (small-sum ds t)
