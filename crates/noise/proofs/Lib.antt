@@ -6,3 +6,4 @@ pub mod LineSums
 pub mod NoiseSums
 pub mod Grids
 pub mod Quarters
+pub mod Averages

@@ -20,7 +20,7 @@ use Rattle.noise.specs.Lines.{at, product, Lines}
 pub entry : {p : List ℤ} (n : ℕ) (f : ℕ → ℤ) → p ≡ tabulate n f → (i : ℕ) → i < n → at p i ≡ f i
 entry n f e i l = ap (λ (p : List ℤ). at p i) e ∙ getD-tabulate n f i (pos 0) l
 
-size : {p : List ℤ} (n : ℕ) (f : ℕ → ℤ) → p ≡ tabulate n f → length p ≡ n
+pub size : {p : List ℤ} (n : ℕ) (f : ℕ → ℤ) → p ≡ tabulate n f → length p ≡ n
 size n f e = ap length e ∙ length-tabulate n f
 
 module _ (n : ℕ) (f g : ℕ → ℤ) (a b : ℕ) (hf : (i : ℕ) → i < n → natAbs (f i) ≤ a) (hg : (i : ℕ) → i < n → natAbs (g i) ≤ b) where

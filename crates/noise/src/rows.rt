@@ -5,8 +5,8 @@ ghost use lib.IntN.{_*ℤ_};
 ghost use lib.ListN.{length};
 ghost use Rattle.laws.specs.Sums.{sumTo};
 ghost use Rattle.noise.specs.Noise.{noise, place};
-ghost use Rattle.noise.specs.Lines.{Places};
-ghost use Rattle.noise.specs.Grids.{sumOver, noiseAt, Rows, Plane};
+ghost use Rattle.noise.specs.Lines.{Places, Plane};
+ghost use Rattle.noise.specs.Grids.{sumOver, noiseAt, Rows};
 use crate::blocks::dot;
 use crate::line::noise_line;
 
