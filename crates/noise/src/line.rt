@@ -54,3 +54,8 @@ pub fn shifted_line(line: &[i16], shift: u32, out: &mut [i16])
         i += 1usize;
     }
 }
+
+// A line to work in, long enough for every row.
+pub fn blank_line() -> [i16; 4096] {
+    [0i16; 4096]
+}
