@@ -34,7 +34,8 @@ pub gathered-none : (depth : ℕ) → Gathered depth [] 0
 unfolding low
 gathered-none depth = record { fits = omega arith; answers = sym (lt-ltb 0 (2 ^ depth) (pow-pos depth)) }
 
-pub gathered-more : (depth : ℕ) (xs : List ℕ) (i bits : ℕ) → i < length xs → getD xs i 0 < 2 ^ 16 → Gathered depth (take i xs) bits → Gathered depth (take (i + 1) xs) (bitOr bits (getD xs i 0))
+pub gathered-more : (depth : ℕ) (xs : List ℕ) (i bits : ℕ) → i < length xs → getD xs i 0 < 2 ^ 16 → Gathered depth (take i xs) bits
+    → Gathered depth (take (i + 1) xs) (bitOr bits (getD xs i 0))
 unfolding low
 gathered-more depth xs i bits h x g =
     let v = getD xs i 0 in
