@@ -34,7 +34,8 @@ pub gathered-none : (depth : ℕ) → Gathered depth [] 0
 unfolding low
 gathered-none depth = record { fits = omega arith; answers = sym (lt-ltb 0 (2 ^ depth) (pow-pos depth)) }
 
-pub gathered-more : (depth : ℕ) (xs : List ℕ) (i bits : ℕ) → i < length xs → getD xs i 0 < 2 ^ 16 → Gathered depth (take i xs) bits → Gathered depth (take (i + 1) xs) (bitOr bits (getD xs i 0))
+pub gathered-more : (depth : ℕ) (xs : List ℕ) (i bits : ℕ) → i < length xs → getD xs i 0 < 2 ^ 16 → Gathered depth (take i xs) bits
+    → Gathered depth (take (i + 1) xs) (bitOr bits (getD xs i 0))
 unfolding low
 gathered-more depth xs i bits h x g =
     let v = getD xs i 0 in
@@ -45,16 +46,22 @@ gathered-more depth xs i bits h x g =
           (sym (or-test depth bits v (ltb bits (2 ^ depth)) (ltb v (2 ^ depth)) refl refl));
     }
 
--- the plane's end, for a depth that every u16 fits, and for one that is shifted by
-pub gathered-all : (depth : ℕ) (xs : List ℕ) (n bits : ℕ) → length xs ≤ n → Gathered depth (take n xs) bits → Gathered depth xs bits
-gathered-all depth xs n bits h g = rw (take-all n xs h) at g
+-- ---- the plane's end
 
-pub gathered-any : (depth : ℕ) (xs : List ℕ) (bits : ℕ) → 16 ≤ depth → Gathered depth xs bits → true ≡ low depth xs
-gathered-any depth xs bits h g = sym (g .answers ∙ lt-ltb bits (2 ^ depth) (lt-of-lt-of-le (g .fits) (pow-mono h)))
+at-end : (depth : ℕ) (xs : List ℕ) (n bits : ℕ) → length xs ≤ n → Gathered depth (take n xs) bits → Gathered depth xs bits
+at-end depth xs n bits h g = rw (take-all n xs h) at g
+
+-- a depth that every u16 fits
+pub gathered-any : (depth : ℕ) (xs : List ℕ) (n bits : ℕ) → length xs ≤ n → Gathered depth (take n xs) bits → 16 ≤ depth → true ≡ low depth xs
+gathered-any depth xs n bits h g d =
+    let e = at-end depth xs n bits h g in
+    sym (e .answers ∙ lt-ltb bits (2 ^ depth) (lt-of-lt-of-le (e .fits) (pow-mono d)))
 
 shifted : (a m : ℕ) (x : Bool) → 0 < m → ltb a m ≡ x → eqb (a / m) 0 ≡ x
 shifted a m true z e = eq-eqb (a / m) 0 (div-eq-of-lt (ltb-true a m e))
 shifted a m false z e = ne-eqb (a / m) 0 (λ d. let f : a / m ≡ (a - m) / m + 1 = div-eq-sub-div z (ltb-false a m e) in omega arith)
 
-pub gathered-shifted : (depth : ℕ) (xs : List ℕ) (bits : ℕ) → Gathered depth xs bits → eqb (bits / 2 ^ depth) 0 ≡ low depth xs
-gathered-shifted depth xs bits g = shifted bits (2 ^ depth) (ltb bits (2 ^ depth)) (pow-pos depth) refl ∙ sym (g .answers)
+-- a depth that is shifted by
+pub gathered-shifted : (depth : ℕ) (xs : List ℕ) (n bits : ℕ) → length xs ≤ n → Gathered depth (take n xs) bits → eqb (bits / 2 ^ depth) 0 ≡ low depth xs
+gathered-shifted depth xs n bits h g =
+    shifted bits (2 ^ depth) (ltb bits (2 ^ depth)) (pow-pos depth) refl ∙ sym (at-end depth xs n bits h g .answers)

@@ -1,3 +1,4 @@
+pub mod Text
 pub mod Size
 pub mod Refusal
 pub mod Cause

@@ -1,39 +1,14 @@
--- Chroma size is the specification's, and no larger than luma's; the samples of a plane whose sides are at most a limit. By cases on the format. Assumes nothing.
-use mathlib.Core.Path.{_≡_, refl}
+-- Chroma is no larger than luma, and a plane whose sides are at most a limit has at most its square of samples. Assumes nothing.
+use mathlib.Core.Bool.{Bool, true, false, cond}
 use Prim.Native.Nat.{ℕ, _*_, _≤_}
 use native.Mathlib.Nat.{mul-le-mul, lt-of-le-of-lt}
 use native.Mathlib.Omega.{arith}
 use lib.Dec.{eqb, leb, lit<}
-use mathlib.Core.Bool.{Bool, true, false, cond}
 use mir.Syntax.{w64}
 use mir.Val.{Fits}
 use Rattle.frame.specs.Size.{chromaWidth, chromaHeight}
-use Rattle.frame.specs.Text.{Format, monochrome, yuv420, yuv422, yuv444, subX, subY, columns, rows, number}
 use Rattle.frame.specs.Questions.{sideLimit, lumaSamples, chromaSamples}
 use Rattle.frame.specs.declared.Shape.{Shape}
-
--- ---- the text
-
-pub columns-are : (f : Format) (w : ℕ) → chromaWidth (number f) w ≡ columns f w
-unfolding chromaWidth columns subX
-columns-are monochrome w = refl
-columns-are yuv420 w = refl
-columns-are yuv422 w = refl
-columns-are yuv444 w = omega arith
-
-pub rows-are : (f : Format) (h : ℕ) → chromaHeight (number f) h ≡ rows f h
-unfolding chromaHeight rows subY
-rows-are monochrome h = refl
-rows-are yuv420 h = refl
-rows-are yuv422 h = omega arith
-rows-are yuv444 h = omega arith
-
--- the syntax counts monochrome as 4:2:0
-pub monochrome-counted : (subX monochrome ≡ subX yuv420) × (subY monochrome ≡ subY yuv420)
-unfolding subX subY
-monochrome-counted = (refl, refl)
-
--- ---- limits
 
 cond-le : (b : Bool) {x y l : ℕ} → x ≤ l → y ≤ l → cond b x y ≤ l
 cond-le true p q = p

@@ -22,6 +22,7 @@ ghost use Prim.Native.Nat.{_+_, _/_, _≤_};
 ghost use Rattle.frame.specs.Size.{chromaWidth, chromaHeight};
 ghost use Rattle.frame.specs.Questions.{lumaSamples, chromaSamples, sideLimit};
 
+// A frame's size in luma samples, its depth in bits, and its format: 0 monochrome, 1 4:2:0, 2 4:2:2, 3 4:4:4.
 pub struct Shape {
     pub width: usize,
     pub height: usize,
@@ -36,7 +37,7 @@ fn half_up(x: usize) -> usize
     x / 2 + x % 2
 }
 
-// A side of a chroma plane, from luma's: nothing, (x + 1) / 2, or x.
+// A side of a chroma plane, from luma's: 0, (x + 1) / 2 or x
 fn chroma_side(absent: bool, halved: bool, x: usize) -> usize
     ensures { λ r. ⌜ r ≡ cond absent 0 (cond halved ((x + 1) / 2) x) ⌝ }
 {
@@ -50,12 +51,14 @@ fn chroma_side(absent: bool, halved: bool, x: usize) -> usize
 }
 
 impl Shape {
+    // 0, (w + 1) / 2 or w
     pub fn chroma_width(self) -> usize
         ensures { λ r. ⌜ r ≡ chromaWidth (self .format) (self .width) ⌝ }
     {
         chroma_side(self.format == 0, self.format <= 2, self.width)
     }
 
+    // 0, (h + 1) / 2 or h
     pub fn chroma_height(self) -> usize
         ensures { λ r. ⌜ r ≡ chromaHeight (self .format) (self .height) ⌝ }
     {

@@ -8,14 +8,14 @@ ghost use Rattle.frame.specs.Questions.{firstNo};
 ghost use Rattle.frame.specs.Calls.{shapeQuestions, deepPlaneQuestions, frameQuestions, lumaQuestions, chromaQuestions, planeRefusal};
 
 // Questions 1 and 5, of a lone plane and its destination.
-pub fn plane_refusal(width: usize, height: usize, a: usize, b: usize) -> u32
-    ensures { λ r. ⌜ r ≡ planeRefusal width height a b ⌝ }
+pub fn plane_refusal(width: usize, height: usize, src: usize, dst: usize) -> u32
+    ensures { λ r. ⌜ r ≡ planeRefusal width height src dst ⌝ }
 {
     let n = ask(0, questions::is_small(width, height), 1);
     if n != 0 {
         return n;
     }
-    ask(n, questions::both_are(width * height, a, b), 5)
+    ask(n, questions::both_are(width * height, src, dst), 5)
 }
 
 // Questions 1, 3 and 5, of lone planes with a depth.

@@ -1,23 +1,17 @@
+-- `frame::chroma_side` meets its contract: the two flags pick the case. Assumes nothing.
 use borrow.Author.Needs.{needs}
 use Rattle.frame.proofs.chroma_side.Statement.{statement}
 use Rattle.frame.proofs.chroma_side.Tie as tie
-use Rattle.frame.proofs.chroma_side.Reads as reads
-use Rattle.frame.proofs.chroma_side.Lts as lts
-use Rattle.frame.proofs.half_up.Reads as half-up-reads
 
--- src/lib.rt:31:9
 returns : tie.Need-returns
 returns c = search needs
 
--- src/lib.rt:34:9
 half-up-requires : tie.Need-half-up-requires
 half-up-requires c κs = search needs
 
--- src/lib.rt:34:9
 returns-2 : tie.Need-returns-2
 returns-2 c = cc
 
--- src/lib.rt:27:1
 returns-3 : tie.Need-returns-3
 returns-3 c = search needs
 

@@ -18,7 +18,8 @@ returns : tie.Need-returns
 unfolding fitRefusal frameRefusal copyQuestions frameQuestions shapeQuestions
 returns c =
     let a = c .before .before .before .before .before .before .before .before .args in
-    asked (copyQuestions (a .s) (now (a .y)) (now (a .cb)) (now (a .cr)) (now (a .y2)) (now (a .cb2)) (now (a .cr2))) refl (c .before .frame-call .ensures) (lagKnown (a .lag)) (c .ask .ensures) refl
+    let qs = copyQuestions (a .s) (now (a .y)) (now (a .cb)) (now (a .cr)) (now (a .y2)) (now (a .cb2)) (now (a .cr2)) in
+    asked qs refl (c .before .frame-call .ensures) (lagKnown (a .lag)) (c .ask .ensures) refl
 
 pub fit-call-spec : {M : Type 1} → statement M
 fit-call-spec = tie.close (tie.spec frame-call-requires ask-requires returns)

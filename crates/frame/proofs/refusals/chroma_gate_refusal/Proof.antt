@@ -17,7 +17,8 @@ returns : tie.Need-returns
 unfolding chromaQuestions shapeQuestions
 returns c =
     let a = c .before .before .args in
-    stopped (shapeQuestions (a .s)) refl (c .before .shape-refusal .ensures) (filled (chromaWidth (a .s .format) (a .s .width)) (chromaHeight (a .s .format) (a .s .height)) (a .a ∷ a .b ∷ a .c ∷ a .d ∷ []) ∷ []) (c .if1 .taken)
+    stopped (shapeQuestions (a .s)) refl (c .before .shape-refusal .ensures)
+    (filled (chromaWidth (a .s .format) (a .s .width)) (chromaHeight (a .s .format) (a .s .height)) (a .a ∷ a .b ∷ a .c ∷ a .d ∷ []) ∷ []) (c .if1 .taken)
 
 -- past the questions about the shape
 known : (k : tie.Else1) → Known (k .before .before .args .s)
@@ -36,7 +37,8 @@ returns-2 : tie.Need-returns-2
 unfolding chromaQuestions shapeQuestions
 returns-2 c =
     let a = c .before .before .before .before .before .args in
-    asked (shapeQuestions (a .s)) refl (c .before .before .before .before .shape-refusal .ensures) (filled (chromaWidth (a .s .format) (a .s .width)) (chromaHeight (a .s .format) (a .s .height)) (a .a ∷ a .b ∷ a .c ∷ a .d ∷ [])) (c .ask .ensures)
+    asked (shapeQuestions (a .s)) refl (c .before .before .before .before .shape-refusal .ensures)
+    (filled (chromaWidth (a .s .format) (a .s .width)) (chromaHeight (a .s .format) (a .s .height)) (a .a ∷ a .b ∷ a .c ∷ a .d ∷ [])) (c .ask .ensures)
     (rw (c .before .before .chroma-samples .ensures) at (c .before .four-are .ensures))
 
 pub chroma-gate-refusal-spec : {M : Type 1} → statement M

@@ -30,7 +30,8 @@ sized : (k : tie.After-ask2) → k .ask2 .result ≡ firstNo (first k)
 sized k =
     let a = k .before .before .before .before .args in
     let q = small (a .width) (a .height) in
-    asked (q ∷ []) refl (asked [] refl refl q (k .before .before .ask .ensures) (k .before .before .before .is-small .ensures)) (depthKnown (a .depth)) (k .ask2 .ensures) (k .before .depth-known .ensures)
+    let e = asked [] refl refl q (k .before .before .ask .ensures) (k .before .before .before .is-small .ensures) in
+    asked (q ∷ []) refl e (depthKnown (a .depth)) (k .ask2 .ensures) (k .before .depth-known .ensures)
 
 returns : tie.Need-returns
 unfolding deepPlaneQuestions
@@ -54,7 +55,8 @@ returns-2 : tie.Need-returns-2
 unfolding deepPlaneQuestions
 returns-2 c =
     let a = c .before .before .before .before .before .before .before .args in
-    asked (first (c .before .before .before)) refl (sized (c .before .before .before)) (filled (a .width) (a .height) (a .a ∷ a .b ∷ [])) (c .ask3 .ensures) (c .before .both-are .ensures)
+    asked (first (c .before .before .before)) refl (sized (c .before .before .before))
+    (filled (a .width) (a .height) (a .a ∷ a .b ∷ [])) (c .ask3 .ensures) (c .before .both-are .ensures)
 
 pub deep-plane-refusal-spec : {M : Type 1} → statement M
 deep-plane-refusal-spec =

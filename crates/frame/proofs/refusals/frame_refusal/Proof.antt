@@ -16,7 +16,8 @@ returns : tie.Need-returns
 unfolding frameQuestions shapeQuestions
 returns c =
     let a = c .before .before .args in
-    stopped (shapeQuestions (a .s)) refl (c .before .shape-refusal .ensures) (frameFilled (a .s) (a .y ∷ a .y2 ∷ []) (a .cb ∷ a .cr ∷ a .cb2 ∷ a .cr2 ∷ []) ∷ []) (c .if1 .taken)
+    stopped (shapeQuestions (a .s)) refl (c .before .shape-refusal .ensures)
+    (frameFilled (a .s) (a .y ∷ a .y2 ∷ []) (a .cb ∷ a .cr ∷ a .cb2 ∷ a .cr2 ∷ []) ∷ []) (c .if1 .taken)
 
 -- past the questions about the shape
 known : (k : tie.Else1) → Known (k .before .before .args .s)
@@ -41,8 +42,11 @@ returns-2 : tie.Need-returns-2
 unfolding frameQuestions shapeQuestions
 returns-2 c =
     let a = c .before .before .before .before .before .before .before .args in
-    asked (shapeQuestions (a .s)) refl (c .before .before .before .before .before .before .shape-refusal .ensures) (frameFilled (a .s) (a .y ∷ a .y2 ∷ []) (a .cb ∷ a .cr ∷ a .cb2 ∷ a .cr2 ∷ [])) (c .ask .ensures)
-    (and-is (rw (c .before .before .before .before .luma-samples .ensures) at (c .before .before .before .both-are .ensures)) (rw (c .before .before .chroma-samples .ensures) at (c .before .four-are .ensures)))
+    asked (shapeQuestions (a .s)) refl (c .before .before .before .before .before .before .shape-refusal .ensures)
+    (frameFilled (a .s) (a .y ∷ a .y2 ∷ []) (a .cb ∷ a .cr ∷ a .cb2 ∷ a .cr2 ∷ [])) (c .ask .ensures)
+    (and-is
+    (rw (c .before .before .before .before .luma-samples .ensures) at (c .before .before .before .both-are .ensures))
+    (rw (c .before .before .chroma-samples .ensures) at (c .before .four-are .ensures)))
 
 pub frame-refusal-spec : {M : Type 1} → statement M
 frame-refusal-spec =

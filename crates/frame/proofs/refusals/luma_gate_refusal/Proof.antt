@@ -16,7 +16,8 @@ returns : tie.Need-returns
 unfolding lumaQuestions shapeQuestions
 returns c =
     let a = c .before .before .args in
-    stopped (shapeQuestions (a .s)) refl (c .before .shape-refusal .ensures) (filled (a .s .width) (a .s .height) (a .a ∷ a .b ∷ a .c ∷ a .d ∷ []) ∷ []) (c .if1 .taken)
+    stopped (shapeQuestions (a .s)) refl (c .before .shape-refusal .ensures)
+    (filled (a .s .width) (a .s .height) (a .a ∷ a .b ∷ a .c ∷ a .d ∷ []) ∷ []) (c .if1 .taken)
 
 -- past the questions about the shape
 known : (k : tie.Else1) → Known (k .before .before .args .s)
@@ -35,7 +36,8 @@ returns-2 : tie.Need-returns-2
 unfolding lumaQuestions shapeQuestions
 returns-2 c =
     let a = c .before .before .before .before .before .args in
-    asked (shapeQuestions (a .s)) refl (c .before .before .before .before .shape-refusal .ensures) (filled (a .s .width) (a .s .height) (a .a ∷ a .b ∷ a .c ∷ a .d ∷ [])) (c .ask .ensures)
+    asked (shapeQuestions (a .s)) refl (c .before .before .before .before .shape-refusal .ensures)
+    (filled (a .s .width) (a .s .height) (a .a ∷ a .b ∷ a .c ∷ a .d ∷ [])) (c .ask .ensures)
     (rw (c .before .before .luma-samples .ensures) at (c .before .four-are .ensures))
 
 pub luma-gate-refusal-spec : {M : Type 1} → statement M

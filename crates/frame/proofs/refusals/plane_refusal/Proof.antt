@@ -24,7 +24,7 @@ returns : tie.Need-returns
 unfolding planeRefusal planeQuestions
 returns c =
     let a = c .before .before .before .args in
-    stopped (small (a .width) (a .height) ∷ []) refl (sized (c .before)) (filled (a .width) (a .height) (a .a ∷ a .b ∷ []) ∷ []) (c .if1 .taken)
+    stopped (small (a .width) (a .height) ∷ []) refl (sized (c .before)) (filled (a .width) (a .height) (a .src ∷ a .dst ∷ []) ∷ []) (c .if1 .taken)
 
 mul-both-are : tie.Need-mul-both-are
 mul-both-are c =
@@ -42,7 +42,8 @@ returns-2 : tie.Need-returns-2
 unfolding planeRefusal planeQuestions
 returns-2 c =
     let a = c .before .before .before .before .before .args in
-    asked (small (a .width) (a .height) ∷ []) refl (sized (c .before .before .before)) (filled (a .width) (a .height) (a .a ∷ a .b ∷ [])) (c .ask2 .ensures) (c .before .both-are .ensures)
+    asked (small (a .width) (a .height) ∷ []) refl (sized (c .before .before .before))
+    (filled (a .width) (a .height) (a .src ∷ a .dst ∷ [])) (c .ask2 .ensures) (c .before .both-are .ensures)
 
 pub plane-refusal-spec : {M : Type 1} → statement M
 plane-refusal-spec =

@@ -35,13 +35,16 @@ ask-requires-4 c κs = search needs
 returns : tie.Need-returns
 unfolding shapeQuestions
 returns c =
-    let s = c .before .before .before .before .before .before .before .before .args .s in
+    let c₃ = c .before .before in
+    let c₂ = c₃ .before .before in
+    let c₁ = c₂ .before .before in
+    let s = c₁ .before .before .args .s in
     let q₁ = small (s .width) (s .height) in
     let q₂ = present (s .width) (s .height) in
     let q₃ = depthKnown (s .depth) in
-    let e₁ = asked [] refl refl q₁ (c .before .before .before .before .before .before .ask .ensures) (c .before .before .before .before .before .before .before .is-small .ensures) in
-    let e₂ = asked (q₁ ∷ []) refl e₁ q₂ (c .before .before .before .before .ask2 .ensures) (c .before .before .before .before .before .is-present .ensures) in
-    let e₃ = asked (q₁ ∷ q₂ ∷ []) refl e₂ q₃ (c .before .before .ask3 .ensures) (c .before .before .before .depth-known .ensures) in
+    let e₁ = asked [] refl refl q₁ (c₁ .ask .ensures) (c₁ .before .is-small .ensures) in
+    let e₂ = asked (q₁ ∷ []) refl e₁ q₂ (c₂ .ask2 .ensures) (c₂ .before .is-present .ensures) in
+    let e₃ = asked (q₁ ∷ q₂ ∷ []) refl e₂ q₃ (c₃ .ask3 .ensures) (c₃ .before .depth-known .ensures) in
     asked (q₁ ∷ q₂ ∷ q₃ ∷ []) refl e₃ (formatKnown (s .format)) (c .ask4 .ensures) (c .before .format-known .ensures)
 
 pub shape-refusal-spec : {M : Type 1} → statement M
