@@ -1,4 +1,4 @@
--- The quantiser's steps are the words: `quantAr c` is `coefficient c` for every f64 (`quant-is-coefficient`), and what it gives can be written in 8 bits (`coefficient-written`).
+-- The quantiser's steps are the words: `quantAr c` is `coefficient c` for every f64 (`quant-is-coefficient`), and what it gives can be written in 8 bits (`quant-written`, `coefficient-written`).
 -- * 64 times an f64 is exact, and its rounding is a whole number (`exact-steps`), unless it is 2 ^ 1024 or more. Then it is an infinity, and both sides are held to the same end (`held-steps`).
 -- Assumes nothing.
 use mathlib.Core.Path.{_≡_, refl, sym, ap, _∙_, subst}
@@ -7,14 +7,14 @@ use native.Mathlib.Nat.{le-trans, lt-of-not-le, mul-comm, mul-le-mul-right, le-d
 use native.Mathlib.Decide.{decLe}
 use native.Mathlib.Omega.{arith}
 use mathlib.Core.Bool.{Bool, true, false, cond}
-use lib.IntN.{ℤ, pos, negℤ, _+ℤ_, _-ℤ_, +ℤ-comm, +ℤ-negℤ-cancel, pos-+ℤ-pos}
+use lib.IntN.{ℤ, pos, negsuc, negℤ, _+ℤ_, _-ℤ_, +ℤ-comm, +ℤ-negℤ-cancel, pos-+ℤ-pos}
 use lib.Dec.{T, lit<, lit≤}
 use lib.Ieee.{Float, nan, inf, fin, binary64, up, down, mul, fits, ofBits, toSigned}
 use lib.Ieee.Fits.{down-pos, mul-fits}
 use borrow.Author.Tests.{lt-ltb, le-ltb}
 use Rattle.float.specs.Clamp.{clampOf}
 use Rattle.float.specs.Round.{halfUp, roundHalfAway}
-use Rattle.float.specs.Steps.{quantAr}
+use Rattle.float.specs.Steps.{sixtyfour, quantAr}
 use Rattle.float.specs.Coefficient.{times64, held, coefficient, Written}
 use Rattle.float.proofs.Units.{fit}
 use Rattle.float.proofs.Times.{times-exact, times-too-large}
@@ -149,9 +149,17 @@ ends-written false n = written (pos (min n 127)) (min n 127 + 128) (small n) (po
     small : (n : ℕ) → min n 127 + 128 < 2 ^ 8
     small n = omega arith
 
+hold-written : (z : ℤ) → Written (hold z)
+hold-written (pos n) = subst Written (sym (hold-pos n)) (ends-written false n)
+hold-written (negsuc n) = subst Written (sym (hold-neg (suc n))) (ends-written true (suc n))
+
+pub quant-written : (c : Float) → Written (quantAr c)
+unfolding quantAr
+quant-written c = hold-written (toSigned 31 (roundHalfAway (mul binary64 c sixtyfour)))
+
 pub coefficient-written : (c : Float) → Written (coefficient c)
 unfolding coefficient times64 held
 coefficient-written nan = record { field = 128; bits = lit< tt; is = refl }
 coefficient-written (inf true) = record { field = 0; bits = lit< tt; is = refl }
 coefficient-written (inf false) = record { field = 255; bits = lit< tt; is = refl }
-coefficient-written (fin s m e) = let n = halfUp (64 * (m * up e)) (down e) in subst Written (sym (hold-signed s n)) (ends-written s n)
+coefficient-written (fin s m e) = let n = halfUp (64 * (m * up e)) (down e) in hold-written (cond s (negℤ (pos n)) (pos n))
