@@ -1,4 +1,4 @@
--- What a call leaves: its answer, and what its destinations hold, which is new where the call is accepted and old where it is refused.
+-- "A refused call returns its number .. ; destinations .. remain." What a call leaves: its answer, and what its destinations hold.
 use mathlib.Core.List.{List}
 use Prim.Native.Nat.{ℕ}
 use lib.ListN.{length}

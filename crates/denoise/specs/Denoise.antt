@@ -8,7 +8,7 @@ use Rattle.laws.specs.Table.{tabulate}
 abbrev pub sampleAt : List ℕ → ℕ → ℕ → ℕ → ℕ
 sampleAt s w r c = getD s (r * w + c) 0
 
--- the places before and after place i of n, held at the edge
+-- the places before and after place i of n, held at the edge: the Rust's `i.saturating_sub(1)` and `(i + 1).min(n - 1)`
 abbrev pub before : ℕ → ℕ
 before i = i - 1
 

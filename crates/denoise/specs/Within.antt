@@ -2,15 +2,16 @@
 use mathlib.Core.List.{List, [], _∷_}
 use Prim.Native.Nat.{ℕ, _≤_, min, max}
 
--- of a list that is not empty
-unfoldable pub minimum : List ℕ → ℕ
-minimum [] = 0
-minimum (x ∷ []) = x
-minimum (x ∷ y ∷ xs) = min x (minimum (y ∷ xs))
+-- of a number and those after it
+unfoldable pub minimum : ℕ → List ℕ → ℕ
+minimum x [] = x
+minimum x (y ∷ ys) = min x (minimum y ys)
 
-unfoldable pub maximum : List ℕ → ℕ
-maximum [] = 0
-maximum (x ∷ xs) = max x (maximum xs)
+unfoldable pub maximum : ℕ → List ℕ → ℕ
+maximum x [] = x
+maximum x (y ∷ ys) = max x (maximum y ys)
 
+-- x lies within the minimum and the maximum of a list
 abbrev pub Within : List ℕ → ℕ → Type 0
-Within xs x = (minimum xs ≤ x) × (x ≤ maximum xs)
+Within [] x = ⊥
+Within (y ∷ ys) x = (minimum y ys ≤ x) × (x ≤ maximum y ys)
