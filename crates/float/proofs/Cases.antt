@@ -1,22 +1,24 @@
 -- Every row of the tables holds, by computation. Assumes nothing.
 use mathlib.Core.Path.{refl}
-use Prim.Native.Nat.{ℕ}
+use mathlib.Core.List.{List}
+use lib.IntN.{ℤ}
+use lib.ListN.{length}
 use lib.Ieee.{mul, div, round, ofInt, ofBits, toSigned, toUnsigned}
 use Rattle.laws.specs.Cases.{Right}
 use Rattle.float.specs.Round.{roundHalfAway}
 use Rattle.float.specs.Root.{root}
 use Rattle.float.specs.Steps.{quantAr, sigma16Of}
 use Rattle.float.specs.Coefficient.{coefficient}
-use Rattle.float.specs.Sigma.{wholeSigma16}
+use Rattle.float.specs.Sigma.{wholeSigma16, sumOfSquares}
 use Rattle.float.specs.Cases.{sigmaCases, coefficientCases, rootCases, roundCases}
 
-pub sigma-cases-right : Right (λ (p : ℕ × ℕ). sigma16Of (p .0) (p .1)) sigmaCases
-unfolding sigma16Of mul div ofInt ofBits toUnsigned
-sigma-cases-right = (refl, (refl, (refl, (refl, (refl, (refl, tt))))))
+pub sigma-cases-right : Right (λ (ds : List ℤ). sigma16Of (sumOfSquares ds) (length ds)) sigmaCases
+unfolding sigma16Of sumOfSquares mul div ofInt ofBits toUnsigned
+sigma-cases-right = (refl, (refl, (refl, (refl, (refl, (refl, (refl, tt)))))))
 
-pub whole-sigma-cases-right : Right (λ (p : ℕ × ℕ). wholeSigma16 (p .0) (p .1)) sigmaCases
-unfolding wholeSigma16
-whole-sigma-cases-right = (refl, (refl, (refl, (refl, (refl, (refl, tt))))))
+pub whole-sigma-cases-right : Right (λ (ds : List ℤ). wholeSigma16 (sumOfSquares ds) (length ds)) sigmaCases
+unfolding wholeSigma16 sumOfSquares
+whole-sigma-cases-right = (refl, (refl, (refl, (refl, (refl, (refl, (refl, tt)))))))
 
 pub quant-cases-right : Right quantAr coefficientCases
 unfolding quantAr mul ofBits toSigned

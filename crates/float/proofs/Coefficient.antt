@@ -16,7 +16,8 @@ use Rattle.float.specs.Clamp.{clampOf}
 use Rattle.float.specs.Round.{halfUp, roundHalfAway}
 use Rattle.float.specs.Steps.{quantAr}
 use Rattle.float.specs.Coefficient.{times64, held, coefficient, Written}
-use Rattle.float.proofs.Units.{fit, times-exact, times-too-large}
+use Rattle.float.proofs.Units.{fit}
+use Rattle.float.proofs.Times.{times-exact, times-too-large}
 use Rattle.float.proofs.Cut.{side, signed-cut}
 use Rattle.float.proofs.NearestWhole.{round-nearest}
 

@@ -1,11 +1,14 @@
-mod Units
+-- The theorems that other crates may cite are `pub`; the others serve them and the proofs of the functions.
 mod Zero
 mod Unique
+mod Units
+mod Times
 mod Cut
 mod Fractions
 pub mod NearestWhole
 pub mod WholeRoot
 pub mod NearestRoot
 pub mod Coefficient
+pub mod WholeSigma
 pub mod NearestSigma
 pub mod Cases

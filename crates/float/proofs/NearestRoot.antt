@@ -47,8 +47,12 @@ module _ (q k y : ℕ) (q-lo : 2 ^ 52 ≤ q) (h : Held y) where
       room z k l = omega arith
 
       go : Dec (k ≤ h .zeros) → (y < q * 2 ^ k) ⊎ ((c : ℕ) × (y ≡ c * 2 ^ k))
-      go (yes l) = inr (h .digits * 2 ^ (h .zeros - k), h .is ∙ ap (λ (x : ℕ). h .digits * x) (ap (λ (x : ℕ). 2 ^ x) (sym (sub-add-cancel l)) ∙ pow-add 2 (h .zeros - k) k) ∙ sym (mul-assoc (h .digits) (2 ^ (h .zeros - k)) (2 ^ k)))
-      go (no f) = inl (lt-of-le-of-lt (le-of-eq (h .is)) (lt-of-lt-of-le (shl-lt 53 (h .zeros) (h .few)) (le-trans (pow-mono (room (h .zeros) k (lt-of-not-le f))) (le-trans (le-of-eq (pow-add 2 52 k)) (mul-le-mul-right (2 ^ k) q-lo)))))
+      go (yes l) =
+          let split : 2 ^ h .zeros ≡ 2 ^ (h .zeros - k) * 2 ^ k = ap (λ (x : ℕ). 2 ^ x) (sym (sub-add-cancel l)) ∙ pow-add 2 (h .zeros - k) k in
+          inr (h .digits * 2 ^ (h .zeros - k), h .is ∙ ap (λ (x : ℕ). h .digits * x) split ∙ sym (mul-assoc (h .digits) (2 ^ (h .zeros - k)) (2 ^ k)))
+      go (no f) =
+          let reach : 2 ^ (53 + h .zeros) ≤ q * 2 ^ k = le-trans (pow-mono (room (h .zeros) k (lt-of-not-le f))) (le-trans (le-of-eq (pow-add 2 52 k)) (mul-le-mul-right (2 ^ k) q-lo)) in
+          inl (lt-of-le-of-lt (le-of-eq (h .is)) (lt-of-lt-of-le (shl-lt 53 (h .zeros) (h .few)) reach))
 
   below-next : y < suc q * 2 ^ k → y ≤ q * 2 ^ k
   below-next l =
@@ -131,6 +135,10 @@ normal-nearest m s lo hi l u =
       | yes e ↦ subst (λ (N : ℕ). NearestRoot N (rootOf N)) (even-part m s (omega arith)) (split-nearest m (s / 2) lo (omega arith) (omega arith) (omega arith))
       | no f ↦ subst (λ (N : ℕ). NearestRoot N (rootOf N)) (odd-part m s (λ e. f (le-of-eq e))) (split-nearest (m * 2) (s / 2) (omega arith) (omega arith) (omega arith) (omega arith))
     ]
+
+-- x is a whole number n / 2 ^ 2148, so its root is that of n in units
+pub under-root : (x : Float) → T (fits binary64 x) → T (positive x) → (n : ℕ) × HasValue x false n (2 ^ 1074 * 2 ^ 1074)
+under-root x t p = let d = normal x (pattern x t p) in (d .m * 2 ^ d .s, d .value)
 
 pub root-nearest : (x : Float) (n : ℕ) → T (fits binary64 x) → T (positive x) → HasValue x false n (2 ^ 1074 * 2 ^ 1074) → NearestRoot n (root x)
 root-nearest x n t p v =

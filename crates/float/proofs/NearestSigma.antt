@@ -1,5 +1,5 @@
--- Sigma16 is the whole number nearest to 16 × root(s / n), halves up: by the Rust's rounded steps for counts to 2 ^ 24 and squares to 65536 each (`sigma16-nearest`), and by a whole root without a bound (`whole-sigma16-nearest`).
--- It is one number (`nearest16-unique`), so the two agree (`sigma16-whole`). y is the rounded quotient, z its rounded root. 16 × z is exact, and k nearest to it.
+-- By the Rust's rounded steps sigma16 is the whole number nearest to 16 × root(s / n), halves up, for counts to 2 ^ 24 and squares to 65536 each (`sigma16-nearest`). So it is also the one by a whole root (`sigma16-whole`).
+-- y is the rounded quotient, z its rounded root. 16 × z is exact, and k is the whole number nearest to it.
 -- * Where s / n is j² / 1024 or more, for an odd j, y is too, and z is j / 32 or more.
 -- * Where s / n is less, it is less by 2 ^ -34 at least: y is D / 2 ^ 34 at most, D = j² × 2 ^ 24 − 1, and z is G / 2 ^ 43 at most, G = j × 2 ^ 38 − 1, so below j / 32.
 -- Assumes nothing.
@@ -7,29 +7,30 @@ use mathlib.Core.Path.{_≡_, sym, ap, _∙_}
 use mathlib.Core.Logic.{inl, inr}
 use mathlib.Core.List.{List, [], _∷_}
 use Prim.Native.Nat.{ℕ, zero, suc, _+_, _-_, _*_, _/_, _^_, _≤_, _<_, min, zero-le}
-use native.Mathlib.Nat.{le-trans, le-of-eq, le-of-suc-le-suc, lt-of-lt-of-le, lt-of-not-le, not-le-of-lt, mul-right-comm, mul-mul-mul-comm, mul-le-mul, mul-le-mul-right, mul-pos, suc-mul, zero-mul, eq-zero-or-pos, le-div-iff-mul-le, div-lt-iff-lt-mul, le-of-mul-le-mul-right}
+use native.Mathlib.Nat.{le-trans, le-of-eq, le-of-suc-le-suc, lt-of-lt-of-le, lt-of-not-le, not-le-of-lt, mul-right-comm, mul-mul-mul-comm, mul-le-mul, mul-le-mul-right, mul-pos, suc-mul, zero-mul, eq-zero-or-pos, le-of-mul-le-mul-right}
 use native.Mathlib.Omega.{arith}
-use mathlib.Core.Bool.{true, false, _&&_}
+use mathlib.Core.Bool.{true, false}
 use lib.IntN.{ℤ, pos, negsuc, negℤ, natAbs}
-use lib.Signed.{leZ}
-use lib.Dec.{T, leb, leb→le, lit<, lit≤}
+use lib.Signed.{_≤ℤ_}
+use lib.Dec.{T, leb→le, lit<, lit≤}
 use lib.Pow.{pow-pos}
 use lib.Ieee.{Float, nan, inf, fin, binary64, up, down, round, mul, ofBits, fits, le, toUnsigned}
 use lib.ListN.{length}
-use lib.Ieee.Fits.{down-pos, mul-fits, and-l, and-r}
+use lib.Ieee.Fits.{down-pos, mul-fits}
 use lib.Ieee.Order.{round-mono}
 use lib.Ieee.Scale.{round-same}
 use lib.Ieee.Positive.{num, den, den-pos, positive}
 use borrow.Author.Tests.{ne-eqb}
 use Rattle.float.specs.Round.{halfUp, roundHalfAway, NearestWhole}
-use Rattle.float.specs.Root.{wholeRoot, root}
+use Rattle.float.specs.Root.{root}
 use Rattle.float.specs.Steps.{deviation16, sigma16Of}
-use Rattle.float.specs.Sigma.{Nearest16, wholeSigma16, sumOfSquares, eachSmall}
-use Rattle.float.proofs.Units.{fit, times-exact}
+use Rattle.float.specs.Sigma.{Nearest16, wholeSigma16, sumOfSquares, EachSmall}
+use Rattle.float.proofs.Units.{fit}
+use Rattle.float.proofs.Times.{times-exact}
 use Rattle.float.proofs.Cut.{unsigned-cut}
-use Rattle.float.proofs.Unique.{only-one}
 use Rattle.float.proofs.NearestWhole.{round-nearest, half-nearest}
-use Rattle.float.proofs.WholeRoot.{root-low, root-high, square-suc}
+use Rattle.float.proofs.WholeRoot.{square-suc}
+use Rattle.float.proofs.WholeSigma.{nearest16-unique, whole-sigma16-nearest}
 use Rattle.float.proofs.Fractions.{rounded, Fraction, AtLeast, AtMost, least, most, positive-between, quotient, root-least, root-most}
 use Rattle.float.proofs.root.Bits.{root-fits}
 use Rattle.float.proofs.root.Normal.{root-of-number}
@@ -124,15 +125,15 @@ module _ (s n : ℕ) (S : 0 < s) (N : 0 < n) (n-small : n ≤ 2 ^ 24) (s-small :
   unfolding z
   z-under a l L h = root-most y y-pos a l L h
 
-  y-256 : T (le z (rounded 256 (2 ^ 0)))
-  y-256 = z-under 256 0 (lit≤ tt) (omega (arith, y-most 65536 0 (fraction 65536 0 (lit< tt) (lit< tt) (lit≤ tt)) (omega arith)))
+  z-256 : T (le z (rounded 256 (2 ^ 0)))
+  z-256 = z-under 256 0 (lit≤ tt) (omega (arith, y-most 65536 0 (fraction 65536 0 (lit< tt) (lit< tt) (lit≤ tt)) (omega arith)))
 
   z-pos : T (positive z)
   z-pos = positive-between z 1 12 256 0 (fraction 1 12 (lit< tt) (lit< tt) (lit≤ tt)) (fraction 256 0 (lit< tt) (lit< tt) (lit≤ tt))
-      (z-over 1 12 (lit≤ tt) (omega (arith, y-least 1 24 (fraction 1 24 (lit< tt) (lit< tt) (lit≤ tt)) (omega arith)))) y-256
+      (z-over 1 12 (lit≤ tt) (omega (arith, y-least 1 24 (fraction 1 24 (lit< tt) (lit< tt) (lit≤ tt)) (omega arith)))) z-256
 
   z-small : num z ≤ 256 * den z
-  z-small = omega (arith, most 256 0 (fraction 256 0 (lit< tt) (lit< tt) (lit≤ tt)) z z-pos y-256)
+  z-small = omega (arith, most 256 0 (fraction 256 0 (lit< tt) (lit< tt) (lit≤ tt)) z z-pos z-256)
 
   k : ℕ
   k = halfUp (num z * 16) (den z)
@@ -193,37 +194,19 @@ pub sigma16-nearest : (s n : ℕ) → 0 < n → n ≤ 2 ^ 24 → s ≤ 65536 * n
 sigma16-nearest zero n N h l = rw (steps-zero n N h) (record { above = omega arith; below = λ k. omega arith })
 sigma16-nearest (suc s) n N h l = sigma16-positive (suc s) n (omega arith) N h l
 
--- ---- one number, and a whole root that gives it
-pub nearest16-unique : (s n j k : ℕ) → Nearest16 s n j → Nearest16 s n k → j ≡ k
-nearest16-unique s n j k p q = only-one (λ h. h * h * n) (λ a b h. mul-le-mul-right n (mul-le-mul h h)) (1024 * s) j k (p .above) (p .below) (q .above) (q .below)
-
-pub whole-sigma16-nearest : (s n : ℕ) → 0 < n → Nearest16 s n (wholeSigma16 s n)
-unfolding wholeSigma16
-whole-sigma16-nearest s n N =
-    let r = wholeRoot (1024 * s / n) in
-    let k = (r + 1) / 2 in
-    let up : suc r ≤ 2 * k + 1 = omega arith in
-    record {
-      above = lt-of-lt-of-le (div-lt-iff-lt-mul N .0 (root-high (1024 * s / n))) (mul-le-mul-right n (mul-le-mul up up));
-      below = λ h.
-          let down : 2 * k - 1 ≤ r = omega arith in
-          le-div-iff-mul-le N .0 (le-trans (mul-le-mul down down) (root-low (1024 * s / n)));
-    }
-
+-- ---- the same by a whole root
 pub sigma16-whole : (s n : ℕ) → 0 < n → n ≤ 2 ^ 24 → s ≤ 65536 * n → sigma16Of s n ≡ wholeSigma16 s n
 sigma16-whole s n N h l = nearest16-unique s n (sigma16Of s n) (wholeSigma16 s n) (sigma16-nearest s n N h l) (whole-sigma16-nearest s n N)
 
 -- ---- each d from −256 to 255
-small-square : (d : ℤ) → T (leZ (negℤ (pos 256)) d && leZ d (pos 255)) → natAbs d * natAbs d ≤ 65536
-small-square (pos n) t = let l : n ≤ 256 = omega (arith, leb→le n 255 t) in mul-le-mul l l
-small-square (negsuc n) t = let l : suc n ≤ 256 = omega (arith, leb→le n 255 (and-l (leb n 255) true t)) in mul-le-mul l l
+small-square : (d : ℤ) → negℤ (pos 256) ≤ℤ d → d ≤ℤ pos 255 → natAbs d * natAbs d ≤ 65536
+small-square (pos n) lo hi = let l : n ≤ 256 = omega (arith, leb→le n 255 (hi .le)) in mul-le-mul l l
+small-square (negsuc n) lo hi = let l : suc n ≤ 256 = omega (arith, leb→le n 255 (lo .le)) in mul-le-mul l l
 
-small-sum : (ds : List ℤ) → T (eachSmall ds) → sumOfSquares ds ≤ 65536 * length ds
-unfolding sumOfSquares eachSmall
+small-sum : (ds : List ℤ) → EachSmall ds → sumOfSquares ds ≤ 65536 * length ds
+unfolding sumOfSquares
 small-sum [] t = zero-le
-small-sum (d ∷ ds) t =
-    let own = leZ (negℤ (pos 256)) d && leZ d (pos 255) in
-    omega (arith, small-square d (and-l own (eachSmall ds) t), small-sum ds (and-r own (eachSmall ds) t))
+small-sum (d ∷ ds) t = omega (arith, small-square d (t .0) (t .1), small-sum ds (t .2))
 
-pub sigma16-of-noise : (ds : List ℤ) → 0 < length ds → length ds ≤ 2 ^ 24 → T (eachSmall ds) → Nearest16 (sumOfSquares ds) (length ds) (sigma16Of (sumOfSquares ds) (length ds))
+pub sigma16-of-noise : (ds : List ℤ) → 0 < length ds → length ds ≤ 2 ^ 24 → EachSmall ds → Nearest16 (sumOfSquares ds) (length ds) (sigma16Of (sumOfSquares ds) (length ds))
 sigma16-of-noise ds N h t = sigma16-nearest (sumOfSquares ds) (length ds) N h (small-sum ds t)

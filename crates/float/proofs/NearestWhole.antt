@@ -16,7 +16,8 @@ use lib.Ieee.Exact.{HasValue}
 use lib.Ieee.Back.{round-whole, whole-unique}
 use lib.Ieee.Nearest.{div-same}
 use Rattle.float.specs.Round.{halfUp, roundHalfAway, NearestWhole}
-use Rattle.float.proofs.Units.{Fit, fit, exact}
+use Rattle.float.proofs.Units.{Fit, fit}
+use Rattle.float.proofs.Times.{exact}
 use Rattle.float.proofs.Unique.{only-one}
 
 two-pos : {c : ℕ} → 0 < c → 0 < 2 * c

@@ -4,6 +4,7 @@ use mathlib.Core.Bool.{true, false}
 use mathlib.Core.List.{List, [], _∷_}
 use lib.IntN.{ℤ, pos, negsuc, negℤ}
 use lib.Ieee.{Float, nan, inf, fin, binary64, ofBits}
+use lib.ListN.{replicate}
 use Rattle.laws.specs.Cases.{Case}
 
 -- m and −m
@@ -13,15 +14,16 @@ whole m = fin false m (pos 0)
 abbrev minus : ℕ → Float
 minus m = fin true m (pos 0)
 
--- Sigma16, from a sum of squares and a count: 8 bits, 4 samples, noise 1,0,0,0; 1,024 samples, one noise of 1; 1,025 samples; noise −1 everywhere; 0 everywhere; an empty plane.
-abbrev pub sigmaCases : List (Case (ℕ × ℕ) ℕ)
+-- Sigma16 of d, the shifted noise: 4 samples, 1,0,0,0; 1,024 samples, one of 1; 1,025 samples; −1 everywhere; 0 everywhere; 3 and −4, whose mean square is 25 / 2; an empty plane.
+abbrev pub sigmaCases : List (Case (List ℤ) ℕ)
 sigmaCases =
-    record { input = (1, 4); stated = 8 } ∷
-    record { input = (1, 1024); stated = 1 } ∷
-    record { input = (1, 1025); stated = 0 } ∷
-    record { input = (12, 12); stated = 16 } ∷
-    record { input = (0, 12); stated = 0 } ∷
-    record { input = (0, 0); stated = 0 } ∷
+    record { input = pos 1 ∷ replicate 3 (pos 0); stated = 8 } ∷
+    record { input = pos 1 ∷ replicate 1023 (pos 0); stated = 1 } ∷
+    record { input = pos 1 ∷ replicate 1024 (pos 0); stated = 0 } ∷
+    record { input = replicate 12 (negℤ (pos 1)); stated = 16 } ∷
+    record { input = replicate 12 (pos 0); stated = 0 } ∷
+    record { input = pos 3 ∷ negℤ (pos 4) ∷ []; stated = 57 } ∷
+    record { input = []; stated = 0 } ∷
     []
 
 -- Coefficients: 0.0078125 is 1 / 2 ^ 7, 1.9921875 is 255 / 2 ^ 7, −2.0078125 is −257 / 2 ^ 7.

@@ -3,6 +3,6 @@ use mathlib.Core.Bool.{cond}
 use lib.IntN.{ℤ}
 use lib.Signed.{ltZ}
 
--- x held to low..high. The lower end is tested first, so it is the answer where the ends are crossed, at which Rust panics.
+-- x held to low..high. Where low is above high, at which Rust panics, it is low for an x below low, and else high.
 unfoldable pub clampOf : ℤ → ℤ → ℤ → ℤ
 clampOf x low high = cond (ltZ x low) low (cond (ltZ high x) high x)

@@ -32,7 +32,7 @@ root (inf s) = cond s nan (inf false)
 root (fin s zero e) = fin s zero e
 root (fin s (suc m) e) = cond s nan (rootOf (suc m * up e * (2 ^ 1074 * 2 ^ 1074) / down e))
 
--- z is an f64 of some units of 2 ^ -1074, and every other f64 is farther from the root of n units: from one of b units, less or more, the root lies past the middle
+-- z is the f64 nearest to the root of n, all in units of 2 ^ -1074: seen from any other f64, of b units, the root lies past the middle, (b + units) / 2. So there is no tie.
 pub record NearestRoot (n : ℕ) (z : Float) : Type 0 where
   pub held : T (fits binary64 z)
   pub units : ℕ

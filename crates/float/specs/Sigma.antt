@@ -1,9 +1,8 @@
 -- "k is nearest to 16 × root(s/n), halves up, when 1024×s < (2k+1)²×n and, for k above 0, (2k−1)²×n ≤ 1024×s."
 use Prim.Native.Nat.{ℕ, _+_, _-_, _*_, _/_, _<_, _≤_}
-use mathlib.Core.Bool.{Bool, true, _&&_}
 use mathlib.Core.List.{List, [], _∷_}
 use lib.IntN.{ℤ, pos, negℤ, natAbs}
-use lib.Signed.{leZ}
+use lib.Signed.{_≤ℤ_}
 use Rattle.float.specs.Root.{wholeRoot}
 
 pub record Nearest16 (s n k : ℕ) : Type 0 where
@@ -20,6 +19,6 @@ unfoldable pub sumOfSquares : List ℤ → ℕ
 sumOfSquares [] = 0
 sumOfSquares (d ∷ ds) = natAbs d * natAbs d + sumOfSquares ds
 
-unfoldable pub eachSmall : List ℤ → Bool
-eachSmall [] = true
-eachSmall (d ∷ ds) = leZ (negℤ (pos 256)) d && leZ d (pos 255) && eachSmall ds
+abbrev pub EachSmall : List ℤ → Type 0
+EachSmall [] = Unit {0}
+EachSmall (d ∷ ds) = (negℤ (pos 256) ≤ℤ d) × (d ≤ℤ pos 255) × EachSmall ds

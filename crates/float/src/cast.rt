@@ -34,7 +34,7 @@ pub fn as_i32(x: f64) -> i32
     2147483647
 }
 
-// x held to low..high. Rust's `x.clamp(low, high)`, which panics at low > high; this gives low or high there.
+// x held to low..high. Rust's `x.clamp(low, high)`, which panics at low > high; there this is low or high.
 pub fn clamp(x: i32, low: i32, high: i32) -> i32
     ensures { λ r. ⌜ r ≡ clampOf x low high ⌝ }
 {

@@ -16,3 +16,6 @@ pub mod LineSums
 pub mod NoiseSums
 pub mod Grids
 pub mod Quarters
+pub mod Averages
+pub mod ChromaSize
+pub mod ChromaSums

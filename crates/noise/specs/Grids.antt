@@ -1,12 +1,10 @@
 -- "In a gate: the two frames' noises at one place, or one squared, or, for row correlation, a noise and the one `lag` columns on." Such products, summed over rows and columns of two planes.
-use mathlib.Core.Path.{_≡_}
 use mathlib.Core.List.{List}
-use Prim.Native.Nat.{ℕ, _+_, _-_, _*_, _^_, _≤_, _<_}
+use Prim.Native.Nat.{ℕ, _+_, _*_, _^_, _<_}
 use lib.IntN.{ℤ, _*ℤ_}
-use lib.ListN.{length}
 use Rattle.laws.specs.Sums.{sumTo}
-use Rattle.noise.specs.Noise.{noise, place}
-use Rattle.noise.specs.Lines.{Below, Places}
+use Rattle.noise.specs.Noise.{noise}
+use Rattle.noise.specs.Lines.{Places}
 use Rattle.noise.specs.declared.rows.Grid.{Grid}
 
 -- f r c for every row r and column c, added up
@@ -20,10 +18,3 @@ noiseAt source denoised g r c = noise source denoised (g .start + r * g .step + 
 -- the rows of a grid lie in two planes of one size, with samples below 2^12
 abbrev pub Rows : List ℕ → List ℕ → Grid → ℕ → ℕ → Type 0
 Rows source denoised g rows columns = (r : ℕ) → r < rows → Places (2 ^ 12) source denoised (g .start + r * g .step) (g .stride) columns
-
--- a plane and its denoised copy: h rows of w samples, below 2^12
-pub record Plane (w h : ℕ) (source denoised : List ℕ) : Type 0 where
-  pub source-size : length source ≡ w * h
-  pub denoised-size : length denoised ≡ w * h
-  pub source-low : Below (2 ^ 12) source
-  pub denoised-low : Below (2 ^ 12) denoised

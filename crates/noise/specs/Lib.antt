@@ -8,3 +8,4 @@ pub mod Cases
 pub mod Lines
 pub mod Grids
 pub mod Quarters
+pub mod AverageSums

@@ -25,6 +25,13 @@ pub record Places (limit : ℕ) (source denoised : List ℕ) (start stride n : �
   pub source-low : Below limit source
   pub denoised-low : Below limit denoised
 
+-- a plane and its denoised copy: h rows of w samples, below 2^12
+pub record Plane (w h : ℕ) (source denoised : List ℕ) : Type 0 where
+  pub source-size : length source ≡ w * h
+  pub denoised-size : length denoised ≡ w * h
+  pub source-low : Below (2 ^ 12) source
+  pub denoised-low : Below (2 ^ 12) denoised
+
 -- two lines of one length, whose products are so small that an i32 holds the sum of any `size` of them
 pub record Lines (size : ℕ) (p q : List ℤ) : Type 0 where
   pub same : length p ≡ length q

@@ -1,4 +1,5 @@
--- The digit loop of `root_digits`, on plain numbers. After i turns q has the first i digits of the root of m × 2 ^ 52. Two digits of m go with each of them: those taken are q² + rest, and `left` has the others, at the top of 54 bits.
+-- The digit loop of `root_digits`, on plain numbers. After i turns q has the first i digits of the root of m × 2 ^ 52.
+-- * Two digits of m go with each of them: those taken are q² + rest, and `left` has the others, at the top of 54 bits.
 -- * A digit is 1 exactly if (2q + 1)², the square with it, is no more than the digits taken: 4q + 1 ≤ 4 rest + the next two (`one-digit`, `zero-digit`).
 -- * Where nothing is left the other digits are zeros (`ended`).
 -- Assumes nothing.

@@ -78,7 +78,9 @@ normal x p = go (decLe (2 ^ 52) (p .c))
         record {
           m = c * 2 ^ h;
           s = 1074 - h;
-          value = subst (λ (a : ℕ). HasValue x false a (2 ^ 1074 * 2 ^ 1074)) (ap (λ (y : ℕ). c * 2 ^ y * 2 ^ 1074) none ∙ ap (λ (y : ℕ). y * 2 ^ 1074) (mul-one c) ∙ sym (moved c h 1074 (omega arith))) (scaled x (c * 2 ^ p .k) (p .value));
+          value =
+              subst (λ (a : ℕ). HasValue x false a (2 ^ 1074 * 2 ^ 1074)) (ap (λ (y : ℕ). c * 2 ^ y * 2 ^ 1074) none ∙ ap (λ (y : ℕ). y * 2 ^ 1074) (mul-one c) ∙ sym (moved c h 1074 (omega arith)))
+              (scaled x (c * 2 ^ p .k) (p .value));
           m-lo = le-trans (le-of-eq (ap (λ (y : ℕ). 2 ^ y) (lead-of z z-pos z-le) ∙ pow-add 2 (z - 1) h)) (mul-le-mul-right (2 ^ h) (size-reaches c (z - 1) (pred-lt z z-pos)));
           m-hi = lt-of-lt-of-le (shl-lt z h (size-lt c)) (le-of-eq (ap (λ (y : ℕ). 2 ^ y) (all z z-le)));
           s-lo = omega arith;

@@ -2,51 +2,21 @@
 -- * Half of `twiceRoot` has 53 digits before the k that are dropped (`half-size`), so `round` takes it to the nearest number of last digits (`rounded`).
 -- * The rest is above q exactly if the root is above the middle, which it never meets: then that number is q + 1, else q (`stays`, `rises`).
 -- Assumes nothing.
-use mathlib.Core.Path.{_≡_, refl, sym, ap, _∙_, subst}
-use Prim.Native.Nat.{ℕ, suc, _+_, _-_, _*_, _/_, _%_, _^_, _≤_, _<_, compare, Ordering, Ordering·lt, Ordering·eq, Ordering·gt}
-use native.Mathlib.Nat.{le-trans, le-of-eq, le-of-lt, lt-of-lt-of-le, lt-of-not-le, not-le-of-lt, lt-irrefl, mul-comm, mul-assoc, mul-left-comm, mul-le-mul-right, mul-pos, add-mul, suc-mul, one-mul, div-add-mod', div-eq-of-lt-le, mul-div-mul-right}
+use mathlib.Core.Path.{_≡_, sym, ap, _∙_}
+use Prim.Native.Nat.{ℕ, suc, _+_, _-_, _*_, _/_, _^_, _≤_, _<_}
+use native.Mathlib.Nat.{le-trans, le-of-eq, lt-of-lt-of-le, lt-of-not-le, not-le-of-lt, mul-comm, mul-assoc, mul-left-comm, mul-le-mul-right, mul-pos, add-mul, suc-mul, one-mul, mul-div-mul-right}
 use native.Mathlib.Omega.{arith}
-use mathlib.Core.Bool.{false, not}
-use lib.Dec.{T, isLe, isEq, leb→le, nleb→lt, eqb→eq, lit<}
+use mathlib.Core.Bool.{false}
+use lib.Dec.{lit<}
 use lib.Pow.{pow-pos, pow-add, pow-mono}
-use lib.Ieee.{binary64, size, nearest, units}
+use lib.Ieee.{binary64, size, units}
 use lib.Ieee.Digits.{size-lt, size-le}
 use lib.Ieee.Fits.{round-is}
 use lib.Ieee.Nearest.{closest, closest-same}
 use Rattle.float.specs.Root.{twiceRoot, rootOf}
 use Rattle.float.proofs.WholeRoot.{twice-lt, twice-ge, twice-gt}
+use Rattle.float.proofs.root.Closest.{closest-down, closest-up}
 use Rattle.float.proofs.root.Split.{Split, from-q, to-next, under-middle, over-middle}
-
--- ---- `closest` off the middle
-below-half : (q x y : ℕ) → x < y → nearest q (compare x y) ≡ q
-below-half q x y h = go (compare x y) (nleb→lt x y) (eqb→eq x y)
-  where
-    go : (o : Ordering) → (T (not (isLe o)) → y < x) → (T (isEq o) → x ≡ y) → nearest q o ≡ q
-    go Ordering·lt k e = refl
-    go Ordering·eq k e = absurd (lt-irrefl y (subst (λ (z : ℕ). z < y) (e tt) h))
-    go Ordering·gt k e = absurd (not-le-of-lt h (le-of-lt (k tt)))
-
-above-half : (q x y : ℕ) → y < x → nearest q (compare x y) ≡ suc q
-above-half q x y h = go (compare x y) (leb→le x y)
-  where
-    go : (o : Ordering) → (T (isLe o) → x ≤ y) → nearest q o ≡ suc q
-    go Ordering·lt k = absurd (not-le-of-lt h (k tt))
-    go Ordering·eq k = absurd (not-le-of-lt h (k tt))
-    go Ordering·gt k = refl
-
--- with q * b ≤ a < (q + 1) * b: a is below or above (2 * q + 1) * b / 2
-module _ (a b q : ℕ) (lo : q * b ≤ a) (hi : a < q * b + b) where
-  quotient : a / b ≡ q
-  quotient = div-eq-of-lt-le b lo (lt-of-lt-of-le hi (le-of-eq (ap (λ (x : ℕ). q * b + x) (sym (one-mul b)) ∙ sym (add-mul q 1 b))))
-
-  remainder : q * b + a % b ≡ a
-  remainder = ap (λ (x : ℕ). x * b + a % b) (sym quotient) ∙ div-add-mod' a b
-
-  closest-down : 2 * a < 2 * (q * b) + b → closest a b ≡ q
-  closest-down h = ap (λ (x : ℕ). nearest x (compare (a % b * 2) b)) quotient ∙ below-half q (a % b * 2) b (omega (arith, remainder))
-
-  closest-up : 2 * (q * b) + b < 2 * a → closest a b ≡ suc q
-  closest-up h = ap (λ (x : ℕ). nearest x (compare (a % b * 2) b)) quotient ∙ above-half q (a % b * 2) b (omega (arith, remainder))
 
 pub size-is : (n p : ℕ) → 2 ^ p ≤ n → n < 2 ^ (p + 1) → size n ≡ p + 1
 size-is n p l h =

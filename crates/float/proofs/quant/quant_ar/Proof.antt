@@ -24,7 +24,8 @@ unfolding quantAr
 returns c =
     toZ-ofZ w32 (c .clamp .result) (record { sfits = c .clamp .ok })
     ∙ c .clamp .ensures
-    ∙ ap (λ (z : ℤ). clampOf z (negℤ (pos 128)) (pos 127)) (toZ-ofZ w32 (c .before .as-i32 .result) (record { sfits = c .before .as-i32 .ok }) ∙ c .before .as-i32 .ensures ∙ ap (toSigned 31) (c .before .before .round .ensures))
+    ∙ ap (λ (z : ℤ). clampOf z (negℤ (pos 128)) (pos 127))
+    (toZ-ofZ w32 (c .before .as-i32 .result) (record { sfits = c .before .as-i32 .ok }) ∙ c .before .as-i32 .ensures ∙ ap (toSigned 31) (c .before .before .round .ensures))
 
 pub quant-ar-spec : {M : Type 1} → statement M
 quant-ar-spec = tie.close (tie.spec round-requires as-i32-requires clamp-requires returns)

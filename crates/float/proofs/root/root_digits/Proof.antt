@@ -1,7 +1,6 @@
 -- `float::root::root_digits` meets its contract. The invariant is the state after i turns, the measure what is left of 53. Assumes nothing.
-use mathlib.Core.Path.{sym, subst}
 use mathlib.Core.Logic.{⊎-elim}
-use Prim.Native.Nat.{ℕ, _+_, _-_, _*_, _%_, _^_}
+use Prim.Native.Nat.{_-_}
 use native.Mathlib.Omega.{arith}
 use Rattle.float.proofs.root.Loop.{State, start, zero-digit, one-digit, ended, done}
 use Rattle.float.proofs.root.root_digits.Statement.{statement}

@@ -16,7 +16,8 @@ use lib.Ieee.Positive.{above}
 use borrow.Author.Needs.{needs}
 use borrow.Author.Tests.{ltb-true, ltb-false}
 use Rattle.float.specs.Round.{halfUp, roundHalfAway}
-use Rattle.float.proofs.Units.{Fit, fit, times-exact}
+use Rattle.float.proofs.Units.{Fit, fit}
+use Rattle.float.proofs.Times.{times-exact}
 use Rattle.float.proofs.Cut.{unsigned-cut}
 use Rattle.float.proofs.NearestWhole.{whole-stays}
 use Rattle.float.proofs.rounding.half_up.Statement.{statement}

@@ -1,0 +1,29 @@
+-- The outcome of a call whose answer is known: refused, the destinations are as they were; accepted, they are denoised. Assumes nothing.
+use mathlib.Core.Path.{_≡_, refl, sym, _∙_}
+use mathlib.Core.List.{List}
+use Prim.Native.Nat.{ℕ}
+use lib.ListN.{length}
+use Rattle.frame.specs.declared.Shape.{Shape}
+use Rattle.frame.specs.Questions.{accepted}
+use Rattle.frame.specs.Calls.{planeRefusal, denoiseFrameRefusal}
+use Rattle.frame.proofs.Refusal.{refused, granted}
+use Rattle.denoise.specs.Denoise.{denoised}
+use Rattle.denoise.specs.Calls.{planeOutcome, Planes, planes, denoisedFrame, frameOutcome}
+
+module _ (s d : List ℕ) (w h n : ℕ) (e : n ≡ planeRefusal w h (length s) (length d)) where
+  pub plane-refused : (n ≡ 0 → ⊥) → _≡_ {A = ℕ × List ℕ} (n, d) (planeOutcome s d w h)
+  unfolding planeOutcome
+  plane-refused z = rw (← e, refused n (denoised s w h) d z)
+
+  pub plane-accepted : n ≡ 0 → _≡_ {A = ℕ × List ℕ} (0, denoised s w h) (planeOutcome s d w h)
+  unfolding planeOutcome
+  plane-accepted z = rw (← e, z)
+
+module _ (f : Shape) (s d : Planes) (n : ℕ) (e : n ≡ denoiseFrameRefusal f (s .y) (s .cb) (s .cr) (length (d .y)) (length (d .cb)) (length (d .cr))) where
+  pub frame-refused : (n ≡ 0 → ⊥) → _≡_ {A = ℕ × Planes} (n, d) (frameOutcome f s d)
+  unfolding frameOutcome
+  frame-refused z = rw (← e, refused n (denoisedFrame f s) d z)
+
+  pub frame-accepted : n ≡ 0 → _≡_ {A = ℕ × Planes} (0, denoisedFrame f s) (frameOutcome f s d)
+  unfolding frameOutcome
+  frame-accepted z = rw (← e, z)

@@ -1,0 +1,13 @@
+-- "Width or height 0 with empty planes is accepted and writes nothing." Assumes nothing.
+use mathlib.Core.Path.{_≡_, refl}
+use mathlib.Core.List.{List, []}
+use Prim.Native.Nat.{ℕ, _*_, _≤_}
+use borrow.Author.Tests.{le-leb}
+use Rattle.frame.specs.Questions.{sideLimit, each}
+use Rattle.frame.specs.Calls.{planeQuestions, planeRefusal}
+use Rattle.denoise.specs.Denoise.{denoised}
+use Rattle.denoise.specs.Calls.{planeOutcome}
+
+pub empty : (w h : ℕ) → w ≤ sideLimit → h ≤ sideLimit → w * h ≡ 0 → planeOutcome [] [] w h ≡ (0, [])
+unfolding planeOutcome planeRefusal planeQuestions each denoised
+empty w h wl hl e = rw (le-leb w sideLimit wl, le-leb h sideLimit hl, e)

@@ -1,0 +1,5 @@
+pub mod Denoise
+pub mod Within
+pub mod Calls
+pub mod Line
+pub mod Cases

@@ -1,0 +1,10 @@
+pub mod Column
+pub mod Answer
+pub mod Cases
+pub mod Together
+pub mod Alike
+pub mod Used
+pub mod Values
+pub mod Order
+pub mod Pivot
+pub mod Limit

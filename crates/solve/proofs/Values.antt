@@ -1,0 +1,57 @@
+-- "The solution is a count with 25 f64 values, unused ones plus zero": a found solution's count is the order, and every answer has 25 values, plus zero from its count on. Assumes nothing.
+use mathlib.Core.Path.{_≡_, refl, _∙_}
+use mathlib.Core.Bool.{true}
+use Prim.Native.Nat.{ℕ, zero, suc, _-_, _≤_, _<_}
+use native.Mathlib.Omega.{arith}
+use lib.ListN.{length, replicate, length-set, length-replicate, getD-replicate}
+use lib.Seq.{getD-set-other}
+use lib.Ieee.{nan}
+use Rattle.laws.specs.Scaled.{plusZero}
+use Rattle.frame.specs.Questions.{accepted}
+use Rattle.solve.specs.declared.Solved.{Solved}
+use Rattle.solve.specs.Elimination.{Row, Matrix, System, Stage, going, none, value, placed, substituted}
+use Rattle.solve.specs.Answer.{refusalOf, unsolvedOf, answerOf, solvedOf}
+use Rattle.solve.proofs.Together.{loops-together}
+
+-- 25 values, plus zero from n on
+pub record Padded (n : ℕ) (x : Row) : Type 0 where
+  pub full : length x ≡ 25
+  pub unused : (k : ℕ) → n ≤ k → k < 25 → value x k ≡ plusZero
+
+zeros-padded : (n : ℕ) → Padded n (replicate 25 plusZero)
+zeros-padded n = record { full = length-replicate 25 plusZero; unused = λ k _ l. getD-replicate 25 k plusZero nan l }
+
+padded-placed : (p : ℕ) (s : System) (n : ℕ) (x : Row) (u : Unit {0}) → 0 ≤ n → n < p → Padded p x → Padded p (placed p s n x)
+unfolding placed
+padded-placed p s n x _ _ l h =
+    record {
+      full = simp length-set (h .full);
+      unused = λ k m b. getD-set-other x (p - 1 - n) k _ nan (λ e. omega arith) ∙ h .unused k m b;
+    }
+
+padded-substituted : (p : ℕ) (s : System) → Padded p (substituted p s)
+unfolding substituted
+padded-substituted p s =
+    loops-together (λ _ x _. Padded p x) 0 p (placed p s) (λ _ u. u) (padded-placed p s) (omega arith) _ tt (zeros-padded p)
+
+-- what holds of every answer: its number, its count where a solution is found, and its values
+pub record Whole (refusal order : ℕ) (r : Solved) : Type 0 where
+  pub numbered : r .refusal ≡ refusal
+  pub counted : r .found ≡ true → r .solution .order ≡ order
+  pub padded : Padded (r .solution .order) (r .solution .values)
+
+whole-unsolved : (n order : ℕ) → Whole n order (unsolvedOf n)
+whole-unsolved n order = record { numbered = refl; counted = λ e. cc; padded = zeros-padded 0 }
+
+whole-answer : (order : ℕ) (s : Stage) → Whole 0 order (answerOf order s)
+unfolding answerOf
+whole-answer order none = whole-unsolved 0 order
+whole-answer order (going s) = record { numbered = refl; counted = λ _. refl; padded = padded-substituted order s }
+
+whole-accepted : (n order : ℕ) (x y : Solved) → Whole 0 order x → Whole n order y → Whole n order (accepted n x y)
+whole-accepted zero order x y h l = h
+whole-accepted (suc n) order x y h l = l
+
+pub solved-whole : (a : Matrix) (b : Row) (order : ℕ) → Whole (refusalOf order) order (solvedOf a b order)
+unfolding solvedOf
+solved-whole a b order = whole-accepted (refusalOf order) order _ _ (whole-answer order _) (whole-unsolved _ order)

@@ -1,0 +1,82 @@
+-- `solve::back_substitute` meets its contract. The loop has done n of its turns. Assumes nothing.
+use mathlib.Core.Path.{_≡_}
+use Prim.Native.Nat.{_≤_, _-_}
+use borrow.Author.Needs.{needs}
+use Rattle.laws.specs.Loop.{loop}
+use Rattle.laws.proofs.Loop.{loop-starts, loop-turn, loop-ends}
+use Rattle.solve.specs.Elimination.{placed, substituted}
+use Rattle.solve.proofs.back_substitute.Statement.{statement}
+use Rattle.solve.proofs.back_substitute.Tie as tie
+
+abbrev Inv-loop : tie.InvT-loop
+Inv-loop order a b x₀ n₀ x n = (n ≤ order) × (x ≡ loop 0 n (placed order (record { matrix = a; right = b })) x₀)
+
+abbrev μ-loop : tie.MeasureT-loop
+μ-loop order a b x₀ n₀ x n = order - n
+
+loop-holds : tie.Need-loop-holds Inv-loop μ-loop
+loop-holds c = (search needs, loop-starts _ _ _)
+
+sub-i : tie.Need-sub-i Inv-loop μ-loop
+sub-i c = search needs
+
+sub-i-2 : tie.Need-sub-i-2 Inv-loop μ-loop
+sub-i-2 c = search needs
+
+mul-unknown : tie.Need-mul-unknown Inv-loop μ-loop
+mul-unknown c = search needs
+
+array-copy-out-unknown : tie.Need-array-copy-out-unknown Inv-loop μ-loop
+array-copy-out-unknown c = search needs
+
+mul-unknown-2 : tie.Need-mul-unknown-2 Inv-loop μ-loop
+mul-unknown-2 c = search needs
+
+array-read-unknown : tie.Need-array-read-unknown Inv-loop μ-loop
+array-read-unknown c = search needs
+
+unknown-requires : tie.Need-unknown-requires Inv-loop μ-loop
+unknown-requires c κs = search needs
+
+mul-x : tie.Need-mul-x Inv-loop μ-loop
+mul-x c = search needs
+
+array-write-x : tie.Need-array-write-x Inv-loop μ-loop
+array-write-x c = search needs
+
+add-n : tie.Need-add-n Inv-loop μ-loop
+add-n c = search needs
+
+loop-less : tie.Need-loop-less Inv-loop μ-loop
+loop-less c = search needs
+
+loop-again : tie.Need-loop-again Inv-loop μ-loop
+unfolding placed
+loop-again c =
+    let l = c .before .before .before .loop in
+    (search needs, rw (c .unknown .ensures) (loop-turn _ _ _ _ _ (search needs) (l .inv .1)))
+
+returns : tie.Need-returns Inv-loop μ-loop
+unfolding substituted
+returns c = let l = c .before .loop in loop-ends _ _ _ _ _ _ (l .inv .0) (c .loop-test .left) (l .inv .1)
+
+pub back-substitute-spec : {M : Type 1} → statement M
+back-substitute-spec =
+    tie.close
+    (tie.spec
+    Inv-loop
+    μ-loop
+    loop-holds
+    sub-i
+    sub-i-2
+    mul-unknown
+    array-copy-out-unknown
+    mul-unknown-2
+    array-read-unknown
+    unknown-requires
+    mul-x
+    array-write-x
+    add-n
+    loop-less
+    loop-again
+    returns)

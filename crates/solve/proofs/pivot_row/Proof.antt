@@ -1,0 +1,103 @@
+-- `solve::pivot_row` meets its contract. piv is the pivot among the rows from i up to r. Assumes nothing.
+use mathlib.Core.Bool.{true, false}
+use mathlib.Core.Logic.{⊎-elim}
+use mathlib.Core.Path.{_≡_, _∙_}
+use Prim.Native.Nat.{_+_, _≤_, _<_, _-_}
+use native.Mathlib.Omega.{arith}
+use borrow.Author.Needs.{needs}
+use Rattle.laws.specs.Loop.{loop}
+use Rattle.laws.proofs.Loop.{loop-starts, loop-turn, loop-ends}
+use Rattle.solve.specs.Elimination.{larger, pivotOf}
+use Rattle.solve.proofs.Column.{picked}
+use Rattle.solve.proofs.pivot_row.Statement.{statement}
+use Rattle.solve.proofs.pivot_row.Tie as tie
+
+abbrev Inv-loop : tie.InvT-loop
+Inv-loop order i a piv₀ r₀ piv r = (i + 1 ≤ r) × (r ≤ order) × (piv < order) × (piv ≡ loop (i + 1) r (larger a i) i)
+
+abbrev μ-loop : tie.MeasureT-loop
+μ-loop order i a piv₀ r₀ piv r = order - r
+
+add-r : tie.Need-add-r Inv-loop μ-loop
+add-r c = search needs
+
+loop-holds : tie.Need-loop-holds Inv-loop μ-loop
+loop-holds c = (search needs, search needs, search needs, loop-starts _ _ _)
+
+mul-magnitude : tie.Need-mul-magnitude Inv-loop μ-loop
+mul-magnitude c = search needs
+
+mul-magnitude-2 : tie.Need-mul-magnitude-2 Inv-loop μ-loop
+mul-magnitude-2 c = search needs
+
+index-1-magnitude : tie.Need-index-1-magnitude Inv-loop μ-loop
+index-1-magnitude c = search needs
+
+index-2-magnitude : tie.Need-index-2-magnitude Inv-loop μ-loop
+index-2-magnitude c = search needs
+
+magnitude-requires : tie.Need-magnitude-requires Inv-loop μ-loop
+magnitude-requires c κs = search needs
+
+mul-magnitude-3 : tie.Need-mul-magnitude-3 Inv-loop μ-loop
+mul-magnitude-3 c = search needs
+
+mul-magnitude-4 : tie.Need-mul-magnitude-4 Inv-loop μ-loop
+mul-magnitude-4 c = search needs
+
+index-1-magnitude-2 : tie.Need-index-1-magnitude-2 Inv-loop μ-loop
+index-1-magnitude-2 c = search needs
+
+index-2-magnitude-2 : tie.Need-index-2-magnitude-2 Inv-loop μ-loop
+index-2-magnitude-2 c = search needs
+
+magnitude-requires-2 : tie.Need-magnitude-requires-2 Inv-loop μ-loop
+magnitude-requires-2 c κs = search needs
+
+add-r-2 : tie.Need-add-r-2 Inv-loop μ-loop
+add-r-2 c = search needs
+
+loop-less : tie.Need-loop-less Inv-loop μ-loop
+loop-less c = search needs
+
+loop-again : tie.Need-loop-again Inv-loop μ-loop
+unfolding larger
+loop-again c =
+    let l = c .before .before .before .before .before .before .loop in
+    let m = c .before .before .before .magnitude .ensures in
+    let m2 = c .before .magnitude2 .ensures in (
+      search needs,
+      search needs,
+      ⊎-elim (λ w. omega arith) (λ w. omega arith) (c .if1 .came),
+      ⊎-elim
+          (λ w. picked _ _ _ _ true _ _ _ m2 m (w .0 .taken) (w .1))
+          (λ w. picked _ _ _ _ false _ _ _ m2 m (w .0 .left) (w .1))
+          (c .if1 .came) ∙ loop-turn _ _ _ _ _ (l .inv .0) (l .inv .3),
+    )
+
+returns : tie.Need-returns Inv-loop μ-loop
+unfolding pivotOf
+returns c = let l = c .before .loop in (loop-ends _ _ _ _ _ _ (l .inv .1) (c .loop-test .left) (l .inv .3), l .inv .2)
+
+pub pivot-row-spec : {M : Type 1} → statement M
+pivot-row-spec =
+    tie.close
+    (tie.spec
+    Inv-loop
+    μ-loop
+    add-r
+    loop-holds
+    mul-magnitude
+    mul-magnitude-2
+    index-1-magnitude
+    index-2-magnitude
+    magnitude-requires
+    mul-magnitude-3
+    mul-magnitude-4
+    index-1-magnitude-2
+    index-2-magnitude-2
+    magnitude-requires-2
+    add-r-2
+    loop-less
+    loop-again
+    returns)

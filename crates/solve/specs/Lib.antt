@@ -1,0 +1,3 @@
+pub mod Elimination
+pub mod Answer
+pub mod Cases

@@ -1,0 +1,152 @@
+// The normal equations of a fit, solved by Gaussian elimination with partial pivoting.
+ghost use mathlib.Core.Path.{_≡_};
+ghost use mathlib.Core.List.{[]};
+ghost use Prim.Native.Nat.{_<_, _≤_};
+ghost use lib.Ieee.{nan};
+ghost use Rattle.solve.specs.Elimination.{System, pivotOf, swapped, cleared, unknownOf, substituted};
+ghost use Rattle.solve.specs.Answer.{refusalOf, unsolvedOf, solvedOf};
+
+// A count with 25 values; the unused ones are plus zero.
+pub struct Solution {
+    pub order: usize,
+    pub values: [f64; 25],
+}
+
+// A refusal's number; whether there is a solution, and the solution.
+pub struct Solved {
+    pub refusal: u32,
+    pub found: bool,
+    pub solution: Solution,
+}
+
+// The first row from i on with the largest |a[r][i]|.
+fn pivot_row(a: [[f64; 25]; 25], order: usize, i: usize) -> usize
+    requires { ⌜ (i < order) × (order ≤ 25) ⌝ }
+    ensures { λ r. ⌜ (r ≡ pivotOf order a i) × (r < order) ⌝ }
+{
+    let mut piv = i;
+    for r in i + 1..order {
+        if float::magnitude(a[r][i]) > float::magnitude(a[piv][i]) {
+            piv = r;
+        }
+    }
+    piv
+}
+
+// Rows i and j exchanged.
+fn exchange_rows(a: [[f64; 25]; 25], i: usize, j: usize) -> [[f64; 25]; 25]
+    requires { ⌜ (i < 25) × (j < 25) ⌝ }
+    ensures { λ r. ⌜ r ≡ swapped [] a i j ⌝ }
+{
+    let mut m = a;
+    let t = m[i];
+    m[i] = m[j];
+    m[j] = t;
+    m
+}
+
+// Values i and j exchanged.
+fn exchange_values(b: [f64; 25], i: usize, j: usize) -> [f64; 25]
+    requires { ⌜ (i < 25) × (j < 25) ⌝ }
+    ensures { λ r. ⌜ r ≡ swapped nan b i j ⌝ }
+{
+    let mut v = b;
+    let t = v[i];
+    v[i] = v[j];
+    v[j] = t;
+    v
+}
+
+// Row i, times a[r][i] / a[i][i], taken from each row r below it.
+fn eliminate_below(a: [[f64; 25]; 25], b: &mut [f64; 25], i: usize, order: usize) -> [[f64; 25]; 25]
+    requires { ⌜ (i < order) × (order ≤ 25) ⌝ }
+    ensures { λ r. ⌜ cleared order i (record { matrix = a; right = now (b .entry) }) ≡ record { matrix = r; right = now (b .exit) } ⌝ }
+{
+    let mut m = a;
+    for r in i + 1..order {
+        let f = m[r][i] / m[i][i];
+        for c in i..order {
+            m[r][c] = m[r][c] - f * m[i][c];
+        }
+        b[r] = b[r] - f * b[i];
+    }
+    m
+}
+
+// x[i] = (right - Σ row[j] × x[j], over j above i) / row[i].
+fn unknown(row: [f64; 25], right: f64, x: [f64; 25], i: usize, order: usize) -> f64
+    requires { ⌜ (i < order) × (order ≤ 25) ⌝ }
+    ensures { λ r. ⌜ r ≡ unknownOf order row right x i ⌝ }
+{
+    let mut v = right;
+    for j in i + 1..order {
+        v = v - row[j] * x[j];
+    }
+    v / row[i]
+}
+
+// The unknowns, the last first.
+fn back_substitute(a: [[f64; 25]; 25], b: [f64; 25], order: usize) -> [f64; 25]
+    requires { ⌜ order ≤ 25 ⌝ }
+    ensures { λ r. ⌜ r ≡ substituted order (record { matrix = a; right = b }) ⌝ }
+{
+    let mut x = [0.0f64; 25];
+    for n in 0..order {
+        let i = order - 1 - n;
+        x[i] = unknown(a[i], b[i], x, i, order);
+    }
+    x
+}
+
+// Is the order 1 to 25?
+fn refusal(order: usize) -> u32
+    ensures { λ r. ⌜ r ≡ refusalOf order ⌝ }
+{
+    if 1 <= order {
+        if order <= 25 {
+            return 0;
+        }
+    }
+    8
+}
+
+// Refused, or with 0 no solution.
+fn unsolved(refusal: u32) -> Solved
+    ensures { λ r. ⌜ r ≡ unsolvedOf refusal ⌝ }
+{
+    Solved {
+        refusal,
+        found: false,
+        solution: Solution {
+            order: 0,
+            values: [0.0f64; 25],
+        },
+    }
+}
+
+// x with a × x = b, of the first `order` equations.
+pub fn solve_normal(a: [[f64; 25]; 25], b: [f64; 25], order: usize) -> Solved
+    ensures { λ r. ⌜ r ≡ solvedOf a b order ⌝ }
+{
+    let refused = refusal(order);
+    if refused != 0 {
+        return unsolved(refused);
+    }
+    let mut m = a;
+    let mut right = b;
+    for i in 0..order {
+        let piv = pivot_row(m, order, i);
+        m = exchange_rows(m, i, piv);
+        right = exchange_values(right, i, piv);
+        if float::magnitude(m[i][i]) < 1e-9 {
+            return unsolved(0);
+        }
+        m = eliminate_below(m, &mut right, i, order);
+    }
+    let values = back_substitute(m, right, order);
+    Solved {
+        refusal: 0,
+        found: true,
+        solution: Solution { order, values },
+    }
+}
