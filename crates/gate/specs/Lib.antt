@@ -1,0 +1,2 @@
+pub mod RowCorrelation
+pub mod Tests
