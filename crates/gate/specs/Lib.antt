@@ -1,2 +1,3 @@
 pub mod RowCorrelation
 pub mod Tests
+pub mod Answers

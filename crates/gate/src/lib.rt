@@ -1,4 +1,10 @@
 // Row correlation, and the gates of luma and of chroma.
+mod correlations;
+mod sums;
+
+ghost use mathlib.Core.Path.{_≡_};
+ghost use Rattle.gate.specs.Answers.{rhoAnswer};
+
 // What the row correlation answers: the number of a refusal, or an f64 from -1 to 1.
 pub enum Rho {
     Refused(u32),
@@ -9,4 +15,22 @@ pub enum Rho {
 pub struct Gate {
     pub refusal: u32,
     pub yes: bool,
+}
+
+// Σ n(r, c) × n(r, c + lag) / Σ n(r, c)², n the noise; 0.0 where there is nothing to divide.
+pub fn lag_h_rho(
+    src: &[u16],
+    den: &[u16],
+    width: usize,
+    height: usize,
+    lag: usize,
+    depth: u8,
+) -> Rho
+    ensures { λ r. ⌜ r ≡ rhoAnswer (now (src .entry)) (now (den .entry)) width height lag depth ⌝ }
+{
+    let n = frame::deep_plane_call(src, den, width, height, depth);
+    if n != 0 {
+        return Rho::Refused(n);
+    }
+    Rho::Value(correlations::row_correlation(src, den, width, height, lag))
 }

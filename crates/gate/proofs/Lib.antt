@@ -1,0 +1,4 @@
+pub mod PlaneSums
+pub mod Accepted
+pub mod Rows
+pub mod Answers
