@@ -1,6 +1,7 @@
 // Row correlation, and the gates of luma and of chroma.
 mod correlations;
 mod sums;
+mod tests;
 
 ghost use mathlib.Core.Path.{_≡_};
 ghost use Rattle.gate.specs.Answers.{rhoAnswer};
