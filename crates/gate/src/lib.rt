@@ -3,8 +3,9 @@ mod correlations;
 mod sums;
 mod tests;
 
+use frame::Shape;
 ghost use mathlib.Core.Path.{_≡_};
-ghost use Rattle.gate.specs.Answers.{rhoAnswer};
+ghost use Rattle.gate.specs.Answers.{rhoAnswer, chromaAnswer};
 
 // What the row correlation answers: the number of a refusal, or an f64 from -1 to 1.
 pub enum Rho {
@@ -34,4 +35,29 @@ pub fn lag_h_rho(
         return Rho::Refused(n);
     }
     Rho::Value(correlations::row_correlation(src, den, width, height, lag))
+}
+
+// Whether one chroma component of two frames carries grain: the tests of the chroma gate, in their order.
+pub fn chroma_noise_gate(
+    s: Shape,
+    c0: &[u16],
+    d0: &[u16],
+    c1: &[u16],
+    d1: &[u16],
+    sigma16: u64,
+) -> Gate
+    ensures { λ r. ⌜ r ≡ chromaAnswer s (now (c0 .entry)) (now (d0 .entry)) (now (c1 .entry)) (now (d1 .entry)) sigma16 ⌝ }
+{
+    let n = frame::chroma_gate_call(s, c0, d0, c1, d1);
+    if n != 0 {
+        return Gate {
+            refusal: n,
+            yes: false,
+        };
+    }
+    let found = tests::chroma_finding(sigma16, c0, d0, c1, d1, s.chroma_width(), s.chroma_height());
+    Gate {
+        refusal: 0,
+        yes: tests::is_passed(found),
+    }
 }
