@@ -1,12 +1,9 @@
 -- There are no more places where a factor exists than its plane has samples: each is found again from the one that it reaches, or lies in the chroma plane. Assumes nothing.
 use mathlib.Core.Path.{_≡_, ap, _∙_, subst}
-use mathlib.Core.Bool.{Bool, true, false, cond}
 use mathlib.Core.Logic.{inl, inr}
 use mathlib.Core.List.{List, [], _∷_, map}
-use Prim.Native.Nat.{ℕ, _+_, _*_, _/_, _≤_, zero-le}
-use native.Mathlib.Nat.{le-trans, le-of-eq, le-refl, mul-comm, mul-le-mul, sub-zero}
-use native.Mathlib.Omega.{arith}
-use lib.Dec.{eqb, leb}
+use Prim.Native.Nat.{ℕ, _*_, _≤_, zero-le}
+use native.Mathlib.Nat.{le-trans, le-of-eq, mul-comm, mul-le-mul, sub-zero}
 use lib.IntN.{ℤ, pos, natAbs, _+ℤ_, _-ℤ_, +ℤ-negℤ-cancel}
 use lib.ListN.{length, length-map}
 use lib.Signed.{yes-nonNeg, pos-natAbs}
@@ -15,6 +12,7 @@ use Rattle.laws.specs.Sets.{In, NoDup}
 use Rattle.laws.proofs.Sets.{length-within}
 use Rattle.laws.proofs.Window.{window-in, length-window}
 use Rattle.frame.specs.Size.{chromaWidth, chromaHeight}
+use Rattle.frame.proofs.Size.{chroma-width-le, chroma-height-le}
 use Rattle.noise.specs.Average.{Luma}
 use Rattle.noise.specs.Products.{Pair, Factor, noiseFrom, average, Inside, Exists}
 use Rattle.noise.specs.Claim.{Limited}
@@ -53,19 +51,12 @@ module _ (plane : Pair) (dr dc : ℤ) where
       (le-of-eq (length-map (window 0 (plane .height) 0 (plane .width)) back ∙ grid-length (plane .height) (plane .width)))
 
 -- ---- a luma average
-halved-le : (b d : Bool) (n : ℕ) → cond b 0 (cond d ((n + 1) / 2) n) ≤ n
-halved-le true d n = zero-le
-halved-le false true n = omega arith
-halved-le false false n = le-refl n
-
 average-places : (luma : Luma) (ps : List Place) → NoDup ps → ((p : Place) → In p ps → Exists (average luma) p) → length ps ≤ luma .width * luma .height
-unfolding chromaWidth chromaHeight
 average-places luma ps n e =
     let h = chromaHeight (luma .format) (luma .height) in
     let w = chromaWidth (luma .format) (luma .width) in
     le-trans (length-within ps (window 0 h 0 w) n (λ p k. window-in 0 h 0 w (p .0) (p .1) zero-le (e p k .0) zero-le (e p k .1)))
-    (le-trans (le-of-eq (grid-length h w))
-    (mul-le-mul (halved-le (eqb (luma .format) 0) (leb (luma .format) 2) (luma .width)) (halved-le (eqb (luma .format) 0) (eqb (luma .format) 1) (luma .height))))
+    (le-trans (le-of-eq (grid-length h w)) (mul-le-mul (chroma-width-le (luma .format) (luma .width)) (chroma-height-le (luma .format) (luma .height))))
 
 pub places-few : (limit top : ℕ) (u : Factor) (ps : List Place) → Limited limit top u → NoDup ps → ((p : Place) → In p ps → Exists u p) → length ps ≤ limit
 places-few limit top (noiseFrom plane dr dc) ps S n e = le-trans (noise-places plane dr dc ps n e) (S .few)

@@ -13,8 +13,9 @@ use Rattle.laws.specs.Law.{Held}
 use Rattle.laws.proofs.Sums.{sum-factor-right}
 use Rattle.laws.proofs.Scaled.{scaled-finer}
 use Rattle.frame.specs.Size.{chromaWidth, chromaHeight}
-use Rattle.noise.specs.Noise.{noise, place}
+use Rattle.noise.specs.Noise.{noise}
 use Rattle.noise.specs.Average.{Luma, quarters}
+use Rattle.noise.specs.AverageSums.{averageSquares, averageProducts}
 use Rattle.noise.specs.Products.{Pair, Factor, average, own, Inside, Exists, whole, exactly, scale}
 use Rattle.noise.specs.Claim.{Limited, limitOf}
 use Rattle.noise.specs.Steps.{InFit, near, tap, windowF}
@@ -65,12 +66,11 @@ in-quarters g h w =
 -- ---- the two sums of the chroma correlation
 module _ (limit top : ℕ) (luma : Luma) (chroma : Pair) (high : chromaHeight (luma .format) (luma .height) ≡ chroma .height) (wide : chromaWidth (luma .format) (luma .width) ≡ chroma .width)
     (H : Held (limitOf limit top (average luma) (average luma))) (S : Limited limit top (average luma)) where
-  pub squares-sum : windowF (average luma) (average luma) 0 (chroma .height) 0 (chroma .width)
-      ≡ ofScaled 4 (sumTo (λ r. sumTo (λ c. quarters luma r c *ℤ quarters luma r c) (chroma .width)) (chroma .height))
+  pub squares-sum : windowF (average luma) (average luma) 0 (chroma .height) 0 (chroma .width) ≡ ofScaled 4 (averageSquares luma (chroma .width) (chroma .height))
   squares-sum = whole-sum limit top chroma (average luma) (average luma) H S S (tap luma high wide) (tap luma high wide)
 
-  pub products-sum : Limited limit top (own chroma) → windowF (average luma) (own chroma) 0 (chroma .height) 0 (chroma .width)
-      ≡ ofScaled 2 (sumTo (λ r. sumTo (λ c. quarters luma r c *ℤ noise (chroma .source) (chroma .denoised) (place (chroma .width) r c)) (chroma .width)) (chroma .height))
+  pub products-sum : Limited limit top (own chroma)
+      → windowF (average luma) (own chroma) 0 (chroma .height) 0 (chroma .width) ≡ ofScaled 2 (averageProducts luma (chroma .source) (chroma .denoised) (chroma .width) (chroma .height))
   products-sum T =
       whole-sum limit top chroma (average luma) (own chroma) H S T (tap luma high wide) (own-near chroma 0)
       ∙ in-quarters (λ r c. quarters luma r c *ℤ whole chroma (pos 0) (pos 0) (r, c)) (chroma .height) (chroma .width)

@@ -4,6 +4,7 @@ pub mod FloatAverage
 pub mod Factors
 pub mod Count
 pub mod Products
+pub mod Accepted
 pub mod Steps
 pub mod FitWindow
 pub mod Cases

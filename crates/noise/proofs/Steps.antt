@@ -19,6 +19,7 @@ use Rattle.laws.proofs.Window.{in-window, window-nodup, sum-window}
 use Rattle.laws.proofs.FloatSums.{loops-sum}
 use Rattle.noise.specs.Noise.{noise, noiseF, place}
 use Rattle.noise.specs.Average.{plusZero}
+use Rattle.noise.specs.Grids.{sumOver}
 use Rattle.noise.specs.Products.{Pair, Factor, own, onward, Inside, Exists, reached, productF, exactly, scale}
 use Rattle.noise.specs.Claim.{Limited, limitOf, PositionsOf}
 use Rattle.noise.specs.Steps.{windowF, dotF, lagF}
@@ -68,7 +69,7 @@ onward-exists p lag r c h l = (inside-on (p .height) r 0 (omega arith), inside-o
 -- their exact sum
 abbrev pub laggedSum : Pair → Pair → ℕ → ℤ
 laggedSum a b lag =
-    sumTo (λ r. sumTo (λ c. noise (a .source) (a .denoised) (place (a .width) r c) *ℤ noise (b .source) (b .denoised) (place (a .width) r (c + lag))) (a .width - lag)) (a .height)
+    sumOver (a .height) (a .width - lag) (λ r c. noise (a .source) (a .denoised) (place (a .width) r c) *ℤ noise (b .source) (b .denoised) (place (a .width) r (c + lag)))
 
 module _ (a b : Pair) (wide : b .width ≡ a .width) (high : b .height ≡ a .height) where
   onward-place : (lag r c : ℕ) → reached b (pos 0) (pos lag) (r, c) ≡ place (a .width) r (c + lag)
@@ -80,7 +81,7 @@ module _ (a b : Pair) (wide : b .width ≡ a .width) (high : b .height ≡ a .he
       grid-sum limit top (own a) (onward b lag) H S T (a .height) (a .width - lag)
       (λ y x h k l m. (onward-exists a 0 y x k (omega arith), onward-exists b lag y x (omega arith) (omega arith)))
       ∙ ap (ofScaled 0)
-      (λ i. sumTo (λ r. sumTo (λ c. noise (a .source) (a .denoised) (own-place a r c i) *ℤ noise (b .source) (b .denoised) (onward-place lag r c i)) (a .width - lag)) (a .height))
+      (λ i. sumOver (a .height) (a .width - lag) (λ r c. noise (a .source) (a .denoised) (own-place a r c i) *ℤ noise (b .source) (b .denoised) (onward-place lag r c i)))
 
   -- `dot`: at lag 0
   pub dot-window : dotF a b ≡ windowF (own a) (own b) 0 (a .height) 0 (a .width)
