@@ -16,10 +16,10 @@ use Rattle.laws.proofs.Is.{sfits}
 use Rattle.laws.proofs.Scaled.{scaled-int, div-scaled}
 use Rattle.laws.proofs.Sums.{sum-bound}
 use Rattle.noise.specs.Average.{Luma}
-use Rattle.noise.specs.Lines.{Plane}
 use Rattle.noise.specs.Products.{own, average}
-use Rattle.noise.specs.Claim.{Limited, Samples, frameSamples, frameTop}
+use Rattle.noise.specs.Claim.{Limited, frameSamples, frameTop}
 use Rattle.noise.specs.AverageSums.{squaresAlong, productsAlong, averageSquares, averageProducts, Component}
+use Rattle.noise.proofs.Accepted.{plane-samples}
 use Rattle.noise.proofs.Products.{frame-held}
 use Rattle.noise.proofs.ChromaSums.{narrow, low, squares-le, products-le}
 use Rattle.noise.proofs.FitWindow.{squares-sum, products-sum}
@@ -46,19 +46,12 @@ divided j z y b v = ap (λ (x : Float). div binary64 x y) (sym (scaled-int z)) �
 held : (z : ℤ) → natAbs z ≤ 2 ^ 53 → toZ w64 (ofZ w64 z) ≡ z
 held z b = toZ-ofZ w64 z (sfits w64 z (lt-of-le-of-lt b (lit< tt)))
 
-samples : (w h : ℕ) (s d : List ℕ) → w ≤ 4096 → h ≤ 4096 → Plane w h s d → Samples frameSamples frameTop s d (w * h)
-samples w h s d n l P = record {
-  few = mul-le-mul n l;
-  lowSource = λ i k. P .source-low i (rw (P .source-size) k);
-  lowDenoised = λ i k. P .denoised-low i (rw (P .denoised-size) k);
-}
-
 module _ (l : Luma) (source denoised : List ℕ) (cw ch : ℕ) (K : Component l source denoised cw ch) where
   luma-limited : Limited frameSamples frameTop (average l)
-  luma-limited = samples (l .width) (l .height) (l .source) (l .denoised) (K .narrow) (K .low) (K .of-luma)
+  luma-limited = plane-samples (l .width) (l .height) (l .source) (l .denoised) (K .narrow) (K .low) (K .of-luma)
 
   chroma-limited : Limited frameSamples frameTop (own (pair source denoised cw ch))
-  chroma-limited = samples cw ch source denoised (narrow l K) (low l K) (K .of-chroma)
+  chroma-limited = plane-samples cw ch source denoised (narrow l K) (low l K) (K .of-chroma)
 
   squares-small : natAbs (averageSquares l cw ch) ≤ 2 ^ 53
   squares-small =

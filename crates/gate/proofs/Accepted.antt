@@ -1,4 +1,4 @@
--- What an accepted call knows of its planes, as the sums want it. Assumes nothing.
+-- What an accepted call knows of its chroma planes, as the sums want it. Assumes nothing.
 use mathlib.Core.Path.{_≡_, sym}
 use mathlib.Core.List.{List}
 use Prim.Native.Nat.{ℕ, _*_, _≤_}
@@ -8,15 +8,7 @@ use Rattle.frame.specs.declared.Shape.{Shape}
 use Rattle.frame.proofs.Facts as facts
 use Rattle.frame.proofs.Size.{chroma-width-le, chroma-height-le}
 use Rattle.noise.specs.Lines.{Plane}
-
--- two planes of one size whose samples are low
-pub plane-of : (w h depth : ℕ) (source denoised : List ℕ) → facts.Plane (w * h) depth source → facts.Plane (w * h) depth denoised → Plane w h source denoised
-plane-of w h depth source denoised p q = record {
-  source-size = p .samples;
-  denoised-size = q .samples;
-  source-low = λ i l. p .below-12 i;
-  denoised-low = λ i l. q .below-12 i;
-}
+use Rattle.noise.proofs.Accepted.{plane-of}
 
 -- the chroma size of an accepted shape, as the code works it out
 module _ (s : Shape) (known : facts.Known s) (w h : ℕ) (wide : w ≡ chromaWidth (s .format) (s .width)) (high : h ≡ chromaHeight (s .format) (s .height)) where

@@ -2,7 +2,6 @@
 use mathlib.Core.Path.{_≡_, refl, sym, _∙_, ap}
 use mathlib.Core.List.{List}
 use Prim.Native.Nat.{ℕ, _≤_}
-use native.Mathlib.Nat.{mul-le-mul}
 use lib.IntN.{ℤ}
 use lib.Ieee.{Float, binary64, ofInt}
 use Rattle.laws.specs.Scaled.{ofScaled}
@@ -11,17 +10,14 @@ use Rattle.noise.specs.Lines.{Plane}
 use Rattle.noise.specs.Products.{Pair, own, onward}
 use Rattle.noise.specs.Claim.{Limited, frameSamples, frameTop}
 use Rattle.noise.specs.Steps.{dotF, lagF}
+use Rattle.noise.proofs.Accepted.{plane-samples}
 use Rattle.noise.proofs.Products.{frame-held}
 use Rattle.noise.proofs.Steps.{laggedSum, dot-sum, lag-sum}
 use Rattle.gate.specs.RowCorrelation.{pair}
 
 module _ (w h : ℕ) (narrow : w ≤ 4096) (short : h ≤ 4096) where
   limited : (s d : List ℕ) → Plane w h s d → Limited frameSamples frameTop (own (pair s d w h))
-  limited s d P = record {
-    few = mul-le-mul narrow short;
-    lowSource = λ i l. P .source-low i (rw (P .source-size) l);
-    lowDenoised = λ i l. P .denoised-low i (rw (P .denoised-size) l);
-  }
+  limited s d P = plane-samples w h s d narrow short P
 
   pub dot-is : (s d t e : List ℕ) (z : ℤ) → Plane w h s d → Plane w h t e → z ≡ laggedSum (pair s d w h) (pair t e w h) 0
       → ofInt binary64 z ≡ dotF (pair s d w h) (pair t e w h)

@@ -2,7 +2,7 @@
 use mathlib.Core.Path.{sym, _∙_}
 use borrow.Author.Needs.{needs}
 use Rattle.frame.proofs.Accepted.{deep-plane-call}
-use Rattle.gate.proofs.Accepted.{plane-of}
+use Rattle.noise.proofs.Accepted.{plane-of}
 use Rattle.gate.proofs.Answers.{refused, answered}
 use Rattle.gate.proofs.lag_h_rho.Statement.{statement}
 use Rattle.gate.proofs.lag_h_rho.Tie as tie
