@@ -29,7 +29,6 @@ module _ (depth : ℕ) (deep : 8 ≤ depth) where
   shifted-lt {n} h = shr-lt 8 (depth - 8) (lt-of-lt-of-le h (le-of-eq (ap (λ (k : ℕ). 2 ^ k) (sym split))))
 
   in-range : (z : ℤ) → natAbs z < 2 ^ depth → InRange (shifted (depth - 8) z)
-  unfolding shifted
   in-range (pos n) h =
       record { least = record { le = tt }; most = leZ-yes (le→leb (n / 2 ^ (depth - 8)) 255 (omega (arith, shifted-lt h))) }
   in-range (negsuc n) h =
