@@ -1,0 +1,3 @@
+pub mod StartSums
+pub mod Squares
+pub mod Tables

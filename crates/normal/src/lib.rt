@@ -1,0 +1,3 @@
+// The exact normal equations of a fit: sums of noise products over its window.
+mod starts;
+mod table;
