@@ -1,8 +1,9 @@
 -- A line of noise: its places lie in both planes, and the machine's difference of two samples is their noise. Assumes nothing.
 use mathlib.Core.List.{List}
-use Prim.Native.Nat.{ℕ, _+_, _*_, _^_, _<_}
-use native.Mathlib.Nat.{le-of-eq, lt-of-lt-of-le}
-use lib.IntN.{ℤ, pos, _-ℤ_}
+use Prim.Native.Nat.{ℕ, _+_, _*_, _^_, _≤_, _<_}
+use native.Mathlib.Nat.{le-of-eq, le-of-suc-le-suc, lt-of-lt-of-le}
+use lib.Dec.{lit≤}
+use lib.IntN.{ℤ, pos, natAbs, _-ℤ_}
 use lib.ListN.{length, getD}
 use mir.Syntax.{w16}
 use mir.Val.{SFits, toZ}
@@ -11,7 +12,7 @@ use Rattle.laws.proofs.Is.{Is, sfits, unsigned, minus}
 use Rattle.noise.specs.Noise.{noise}
 use Rattle.noise.specs.Lines.{Places}
 
-module _ {source denoised : List ℕ} {start stride n : ℕ} (P : Places source denoised start stride n) {i : ℕ} (l : i < n) where
+module _ {source denoised : List ℕ} {start stride n : ℕ} (P : Places (2 ^ 15) source denoised start stride n) {i : ℕ} (l : i < n) where
   pub source-in : start + i * stride < length source
   source-in = P .inside i l
 
@@ -34,3 +35,20 @@ module _ {source denoised : List ℕ} {start stride n : ℕ} (P : Places source 
       (noise source denoised (start + i * stride))
   noise-is =
       minus (unsigned w16 _ source-below) (unsigned w16 _ denoised-below) (abs-diff _ _ (2 ^ 15) source-below denoised-below)
+
+-- samples below 2^12: also below 2^15, and a noise is at most 4,095 in size
+module _ {source denoised : List ℕ} {start stride n : ℕ} (P : Places (2 ^ 12) source denoised start stride n) where
+  pub looser : Places (2 ^ 15) source denoised start stride n
+  looser =
+      record {
+        same = P .same;
+        begins = P .begins;
+        inside = P .inside;
+        source-low = λ i l. lt-of-lt-of-le (P .source-low i l) (lit≤ tt);
+        denoised-low = λ i l. lt-of-lt-of-le (P .denoised-low i l) (lit≤ tt);
+      }
+
+  pub noise-le : (i : ℕ) → i < n → natAbs (noise source denoised (start + i * stride)) ≤ 4095
+  noise-le i l =
+      let k = start + i * stride in
+      le-of-suc-le-suc (abs-diff (getD source k 0) (getD denoised k 0) (2 ^ 12) (P .source-low k (source-in looser l)) (P .denoised-low k (denoised-in looser l)))

@@ -2,3 +2,5 @@ pub mod Noise
 pub mod Shift
 pub mod Average
 pub mod Lines
+pub mod Grids
+pub mod Quarters

@@ -17,12 +17,20 @@ product p q i = at p i *ℤ at q i
 abbrev pub Below : ℕ → List ℕ → Type 0
 Below c plane = (i : ℕ) → i < length plane → getD plane i 0 < c
 
--- n places of two planes, from start on, stride apart; an i16 holds their samples
-pub record Places (source denoised : List ℕ) (start stride n : ℕ) : Type 0 where
+-- n places of two planes of one size, from start on, stride apart; every sample below a limit
+pub record Places (limit : ℕ) (source denoised : List ℕ) (start stride n : ℕ) : Type 0 where
   pub same : length source ≡ length denoised
+  pub begins : start ≤ length source
   pub inside : (i : ℕ) → i < n → start + i * stride < length source
-  pub source-low : Below (2 ^ 15) source
-  pub denoised-low : Below (2 ^ 15) denoised
+  pub source-low : Below limit source
+  pub denoised-low : Below limit denoised
+
+-- a plane and its denoised copy: h rows of w samples, below 2^12
+pub record Plane (w h : ℕ) (source denoised : List ℕ) : Type 0 where
+  pub source-size : length source ≡ w * h
+  pub denoised-size : length denoised ≡ w * h
+  pub source-low : Below (2 ^ 12) source
+  pub denoised-low : Below (2 ^ 12) denoised
 
 -- two lines of one length, whose products are so small that an i32 holds the sum of any `size` of them
 pub record Lines (size : ℕ) (p q : List ℤ) : Type 0 where

@@ -1,8 +1,18 @@
 // Lines of noise and of luma averages, and sums of products of two lines.
+mod average;
 mod blocks;
 mod line;
+mod rows;
 
+pub use average::average_line;
+pub use average::quarters_line;
+pub use average::sub_x;
+pub use average::sub_y;
 pub use blocks::dot;
 pub use blocks::dot_wide;
 pub use line::noise_line;
+pub use line::noise_row;
 pub use line::shifted_line;
+pub use rows::Grid;
+pub use rows::grid_products;
+pub use rows::lagged_products;

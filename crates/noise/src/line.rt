@@ -1,15 +1,15 @@
 // Lines of noise, worked out from two planes of samples.
 ghost use mathlib.Core.Path.{_≡_};
-ghost use Prim.Native.Nat.{_+_, _*_, _<_};
+ghost use Prim.Native.Nat.{_+_, _*_, _^_, _<_};
 ghost use lib.ListN.{length};
 ghost use Rattle.laws.specs.Table.{tabulate};
-ghost use Rattle.noise.specs.Noise.{noise};
+ghost use Rattle.noise.specs.Noise.{noise, place};
 ghost use Rattle.noise.specs.Shift.{shifted};
-ghost use Rattle.noise.specs.Lines.{at, Places};
+ghost use Rattle.noise.specs.Lines.{at, Places, Plane};
 
 // line[i] = src[start + i × stride] − den[start + i × stride].
 fn noise_places(src: &[u16], den: &[u16], start: usize, stride: usize, line: &mut [i16])
-    requires { ⌜ Places (now src) (now den) start stride (length (now line)) ⌝ }
+    requires { ⌜ Places (2 ^ 15) (now src) (now den) start stride (length (now line)) ⌝ }
     ensures { λ _. ⌜ now (line .exit) ≡ tabulate (length (now (line .entry))) (λ i. noise (now (src .entry)) (now (den .entry)) (start + i * stride)) ⌝ }
 {
     let mut i = 0usize;
@@ -24,7 +24,7 @@ fn noise_places(src: &[u16], den: &[u16], start: usize, stride: usize, line: &mu
 
 // The same. A stride of 1 is written out: the back end makes packed differences of that loop, and of no other.
 pub fn noise_line(src: &[u16], den: &[u16], start: usize, stride: usize, line: &mut [i16])
-    requires { ⌜ Places (now src) (now den) start stride (length (now line)) ⌝ }
+    requires { ⌜ Places (2 ^ 15) (now src) (now den) start stride (length (now line)) ⌝ }
     ensures { λ _. ⌜ now (line .exit) ≡ tabulate (length (now (line .entry))) (λ i. noise (now (src .entry)) (now (den .entry)) (start + i * stride)) ⌝ }
 {
     if stride == 1usize {
@@ -32,6 +32,14 @@ pub fn noise_line(src: &[u16], den: &[u16], start: usize, stride: usize, line: &
     } else {
         noise_places(src, den, start, stride, line);
     }
+}
+
+// The noise of row y of two planes, w wide.
+pub fn noise_row(src: &[u16], den: &[u16], w: usize, h: usize, y: usize, line: &mut [i16])
+    requires { ⌜ Plane w h (now src) (now den) × (y < h) × (length (now line) ≡ w) ⌝ }
+    ensures { λ _. ⌜ now (line .exit) ≡ tabulate w (λ x. noise (now (src .entry)) (now (den .entry)) (place w y x)) ⌝ }
+{
+    noise_line(src, den, y * w, 1usize, line);
 }
 
 // out[i] = line[i] >> shift, rounded down.

@@ -1,7 +1,7 @@
 -- `noise::line::noise_line` meets its contract: where the stride is 1 it is 1. Assumes nothing.
 use mathlib.Core.Path.{_≡_, sym, subst}
 use mathlib.Core.List.{List}
-use Prim.Native.Nat.{ℕ, _+_, _*_}
+use Prim.Native.Nat.{ℕ, _+_, _*_, _^_}
 use borrow.Author.Needs.{needs}
 use lib.IntN.{ℤ}
 use lib.ListN.{length}
@@ -15,7 +15,7 @@ noise-places-requires : tie.Need-noise-places-requires
 noise-places-requires c κs =
     let S = c .before .before .before .before in
     let A = S .args in
-    subst (λ (s : ℕ). Places (A .src .now) (A .den .now) (A .start) s (length (A .line .now))) (c .before .if1 .taken) (S .pre)
+    subst (λ (s : ℕ). Places (2 ^ 15) (A .src .now) (A .den .now) (A .start) s (length (A .line .now))) (c .before .if1 .taken) (S .pre)
 
 noise-places-requires-2 : tie.Need-noise-places-requires-2
 noise-places-requires-2 c κs = search needs

@@ -1,0 +1,64 @@
+-- The rows of a plane as a grid: their places lie in the plane, and a sum over them is the sum over the plane's rows and columns. Assumes nothing.
+use mathlib.Core.Path.{_≡_, sym, ap, _∙_}
+use mathlib.Core.List.{List}
+use Prim.Native.Nat.{ℕ, _+_, _*_, _^_, _≤_, _<_}
+use native.Mathlib.Nat.{le-of-eq, le-of-suc-le-suc, le-trans, lt-of-lt-of-le, add-comm, mul-one, mul-comm, suc-mul, mul-le-mul-right}
+use native.Mathlib.Omega.{arith}
+use lib.Arith.{digits-lt}
+use lib.IntN.{ℤ, natAbs, _*ℤ_}
+use lib.ListN.{length, getD}
+use Rattle.laws.proofs.Whole.{abs-diff}
+use Rattle.laws.specs.Table.{tabulate}
+use Rattle.laws.proofs.Table.{tabulate-same}
+use Rattle.laws.proofs.Sums.{sum-ext}
+use Rattle.noise.specs.Noise.{noise, place}
+use Rattle.noise.specs.Lines.{Places, Plane}
+use Rattle.noise.specs.Grids.{sumOver, noiseAt, Rows}
+use Rattle.noise.specs.declared.rows.Grid.{Grid}
+
+-- n columns of every row, from column `start` on
+abbrev pub columnsFrom : ℕ → ℕ → Grid
+columnsFrom w start = record { start = start; step = w; stride = 1 }
+
+module _ {w h : ℕ} {source denoised : List ℕ} (P : Plane w h source denoised) where
+  pub place-in : {r c : ℕ} → r < h → c < w → place w r c < length source
+  place-in l m = lt-of-lt-of-le (digits-lt l m) (le-of-eq (mul-comm h w ∙ sym (P .source-size)))
+
+  pub plane-noise-le : (r c : ℕ) → r < h → c < w → natAbs (noise source denoised (place w r c)) ≤ 4095
+  plane-noise-le r c l m =
+      let k = place-in l m in
+      le-of-suc-le-suc (abs-diff (getD source (place w r c) 0) (getD denoised (place w r c) 0) (2 ^ 12) (P .source-low (place w r c) k) (P .denoised-low (place w r c) (lt-of-lt-of-le k (le-of-eq (P .source-size ∙ sym (P .denoised-size))))))
+
+  -- n places of row r from column c on, which is place k
+  pub row-places : (k r c n : ℕ) → k ≡ place w r c → r < h → c + n ≤ w → Places (2 ^ 12) source denoised k 1 n
+  row-places k r c n e l m =
+      record {
+        same = P .source-size ∙ sym (P .denoised-size);
+        begins =
+            let all : r * w + w ≤ h * w = le-trans (le-of-eq (sym (suc-mul r w))) (mul-le-mul-right w l) in
+            omega (arith, P .source-size, mul-comm h w);
+        inside = λ i o. let b : place w r (c + i) < length source = place-in l (omega arith) in omega arith;
+        source-low = P .source-low;
+        denoised-low = P .denoised-low;
+      }
+
+  pub plane-rows : (start n : ℕ) → start + n ≤ w → Rows source denoised (columnsFrom w start) h n
+  plane-rows start n m r l = row-places (start + r * w) r start n (add-comm start (r * w)) l m
+
+-- a row, filled with a stride of 1
+pub row-line : (source denoised : List ℕ) (w y : ℕ) {n : ℕ} → n ≡ w
+    → tabulate n (λ i. noise source denoised (y * w + i * 1)) ≡ tabulate w (λ x. noise source denoised (place w y x))
+row-line source denoised w y e = rw e (tabulate-same w _ _ (λ i l. ap (λ (k : ℕ). noise source denoised (y * w + k)) (mul-one i)))
+
+-- n columns, counted as m
+module _ (source0 denoised0 source1 denoised1 : List ℕ) (w h lag n : ℕ) {m : ℕ} (same : m ≡ n) where
+  pub plane-sum : sumOver h m (λ r c. noiseAt source0 denoised0 (columnsFrom w 0) r c *ℤ noiseAt source1 denoised1 (columnsFrom w lag) r c)
+      ≡ sumOver h n (λ r c. noise source0 denoised0 (place w r c) *ℤ noise source1 denoised1 (place w r (c + lag)))
+  plane-sum =
+      rw same (sum-ext _ _ h (λ r l. sum-ext _ _ n (λ c k j. noise source0 denoised0 (first r c j) *ℤ noise source1 denoised1 (second r c j))))
+    where
+      first : (r c : ℕ) → 0 + r * w + c * 1 ≡ r * w + c
+      first r c = omega arith
+
+      second : (r c : ℕ) → lag + r * w + c * 1 ≡ r * w + (c + lag)
+      second r c = omega arith

@@ -1,0 +1,80 @@
+-- `noise::average::average_line` meets its contract: the lines are the luma rows of the chroma row, and their quarters the averages. Assumes nothing.
+use mathlib.Core.Path.{_≡_, ap, _∙_}
+use Prim.Native.Nat.{ℕ, _+_, _-_, _*_, _^_, min}
+use native.Mathlib.Nat.{le-trans, le-of-eq}
+use borrow.Author.Needs.{needs}
+use lib.Dec.{leb}
+use Rattle.noise.specs.Average.{subY}
+use Rattle.noise.proofs.Averages.{bit-le, are-pairs, line-count, line-is}
+use Rattle.noise.proofs.average.average_line.Statement.{statement}
+use Rattle.noise.proofs.average.average_line.Tie as tie
+
+luma-row-requires : tie.Need-luma-row-requires
+luma-row-requires c κs = search needs
+
+sub-y-requires : tie.Need-sub-y-requires
+sub-y-requires c κs = search needs
+
+luma-row-requires-2 : tie.Need-luma-row-requires-2
+luma-row-requires-2 c κs = (c .before .before .before .before .pre .1, le-trans (le-of-eq (c .sub-y .ensures)) (bit-le (leb (c .before .before .before .before .args .format) 1)))
+
+noise-row-requires : tie.Need-noise-row-requires
+noise-row-requires c κs = search needs
+
+noise-row-requires-2 : tie.Need-noise-row-requires-2
+noise-row-requires-2 c κs = search needs
+
+sub-x-requires : tie.Need-sub-x-requires
+sub-x-requires c κs = search needs
+
+-- the lower row
+lower-is : (c : tie.After-luma-row2) → let A = c .before .before .before .before .before .args in
+    c .luma-row2 .result ≡ min (A .r * 2 ^ subY (A .format) + subY (A .format)) (A .h - 1)
+lower-is c =
+    let A = c .before .before .before .before .before .args in
+    c .luma-row2 .ensures ∙ ap (λ (n : ℕ). min (A .r * 2 ^ subY (A .format) + n) (A .h - 1)) (c .before .sub-y .ensures)
+
+quarters-line-requires : tie.Need-quarters-line-requires
+quarters-line-requires c κs =
+    let S = c .before .before .before .before .before .before .before .before .before .before .before .before .before .before .before in
+    let F = S .args .format in
+    let up = c .before .before .before .before .before .before .before .before .before .before .before .before .luma-row in
+    let low = c .before .before .before .before .before .before .before .before .before .before .luma-row2 in
+    let pairs = are-pairs (S .pre .0) F (S .args .r) (S .pre .1) (up .result) (low .result) (up .ensures) (lower-is (c .before .before .before .before .before .before .before .before .before .before)) (c .before .before .before .before .before .before .before .before .noise-row .ensures) (c .before .before .before .before .before .noise-row2 .ensures) in (
+      le-trans (le-of-eq (c .before .sub-x .ensures)) (bit-le (leb F 2)),
+      pairs,
+      line-count (S .pre .0) F (S .args .r) (S .pre .1) (up .result) (low .result) (up .ensures) (lower-is (c .before .before .before .before .before .before .before .before .before .before)) (c .before .before .before .before .before .before .before .before .noise-row .ensures) (c .before .before .before .before .before .noise-row2 .ensures) (S .pre .4) (c .before .sub-x .ensures),
+    )
+
+same-length : tie.Need-same-length
+same-length c = search needs
+
+same-length-2 : tie.Need-same-length-2
+same-length-2 c = search needs
+
+same-length-3 : tie.Need-same-length-3
+same-length-3 c = search needs
+
+returns : tie.Need-returns
+returns c =
+    let S = c .before .before .before .before .before .before .before .before .before .before .before .before .before .before .before .before .before in
+    let up = c .before .before .before .before .before .before .before .before .before .before .before .before .before .before .luma-row in
+    let low = c .before .before .before .before .before .before .before .before .before .before .before .before .luma-row2 in
+    c .before .quarters-line .ensures
+    ∙ line-is (S .pre .0) (S .args .format) (S .args .r) (S .pre .1) (up .result) (low .result) (up .ensures) (lower-is (c .before .before .before .before .before .before .before .before .before .before .before .before)) (c .before .before .before .before .before .before .before .before .before .before .noise-row .ensures) (c .before .before .before .before .before .before .before .noise-row2 .ensures) (S .pre .4) (c .before .before .before .sub-x .ensures)
+
+pub average-line-spec : {M : Type 1} → statement M
+average-line-spec =
+    tie.close
+    (tie.spec
+    luma-row-requires
+    sub-y-requires
+    luma-row-requires-2
+    noise-row-requires
+    noise-row-requires-2
+    sub-x-requires
+    quarters-line-requires
+    same-length
+    same-length-2
+    same-length-3
+    returns)

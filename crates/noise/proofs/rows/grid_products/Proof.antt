@@ -1,0 +1,114 @@
+-- `noise::rows::grid_products` meets its contract: the accumulator holds the sum of the rows passed. Assumes nothing.
+use mathlib.Core.Path.{_≡_, refl, sym, ap, _∙_, subst}
+use mathlib.Core.List.{List}
+use Prim.Native.Nat.{ℕ, _+_, _-_, _*_, _^_, _≤_, _<_}
+use native.Mathlib.Nat.{lt-of-le-of-lt, mul-le-mul, mul-le-mul-right}
+use native.Mathlib.Omega.{arith}
+use borrow.Author.Needs.{needs}
+use lib.Dec.{lit<}
+use lib.IntN.{ℤ, natAbs, _+ℤ_, _*ℤ_}
+use lib.ListN.{length}
+use mir.Syntax.{w64}
+use mir.Val.{ofZ, toZ}
+use Rattle.laws.specs.Sums.{sumTo}
+use Rattle.laws.proofs.Is.{Is, again, fits}
+use Rattle.noise.specs.Lines.{Places}
+use Rattle.noise.specs.Grids.{noiseAt}
+use Rattle.noise.specs.declared.rows.Grid.{Grid}
+use Rattle.noise.proofs.LineSums.{rows-turn}
+use Rattle.noise.proofs.NoiseSums.{noise-sum-le}
+use Rattle.noise.proofs.rows.grid_products.Statement.{statement}
+use Rattle.noise.proofs.rows.grid_products.Tie as tie
+
+-- the sum of a row
+abbrev row : List ℕ → List ℕ → Grid → List ℕ → List ℕ → Grid → ℕ → ℕ → ℤ
+row src0 den0 grid0 src1 den1 grid1 n r = sumTo (λ c. noiseAt src0 den0 grid0 r c *ℤ noiseAt src1 den1 grid1 r c) n
+
+abbrev Inv-loop : tie.InvT-loop
+Inv-loop src0 den0 grid0 src1 den1 grid1 rows p₀ q₀ sum₀ r₀ p q sum r =
+    (r ≤ rows) × (length p ≡ length p₀) × (length q ≡ length q₀) × (toZ w64 sum ≡ sumTo (row src0 den0 grid0 src1 den1 grid1 (length p₀)) r)
+
+abbrev μ-loop : tie.MeasureT-loop
+μ-loop src0 den0 grid0 src1 den1 grid1 rows p₀ q₀ sum₀ r₀ p q sum r = rows - r
+
+loop-holds : tie.Need-loop-holds Inv-loop μ-loop
+unfolding sumTo
+loop-holds c = (omega arith, refl, refl, refl)
+
+mul-row-products : tie.Need-mul-row-products Inv-loop μ-loop
+mul-row-products c = omega (arith, c .before .before .before .before .before .before .before .pre .0 (c .before .before .loop .r) (search needs) .begins)
+
+add-row-products : tie.Need-add-row-products Inv-loop μ-loop
+add-row-products c = omega (arith, c .before .before .before .before .before .before .before .before .pre .0 (c .before .before .before .loop .r) (search needs) .begins)
+
+mul-row-products-2 : tie.Need-mul-row-products-2 Inv-loop μ-loop
+mul-row-products-2 c = omega (arith, c .before .before .before .before .before .before .before .before .before .pre .1 (c .before .before .before .before .loop .r) (search needs) .begins)
+
+add-row-products-2 : tie.Need-add-row-products-2 Inv-loop μ-loop
+add-row-products-2 c = omega (arith, c .before .before .before .before .before .before .before .before .before .before .pre .1 (c .before .before .before .before .before .loop .r) (search needs) .begins)
+
+row-products-requires : tie.Need-row-products-requires Inv-loop μ-loop
+row-products-requires c κs =
+    let S = c .before .before .before .before .before .before .before .before .before .before .before .before in
+    let H = c .before .before .before .before .before .before .before .loop in
+    let l : H .r < S .args .rows = omega arith in
+    rw (H .inv .1) (S .pre .0 (H .r) l, S .pre .1 (H .r) l, S .pre .3, H .inv .2 ∙ S .pre .4)
+
+-- the sum with a row more
+added : (c : tie.After-q Inv-loop μ-loop) → let A = c .before .before .before .before .before .before .before .before .before .before .before .before .before .before .before .args in
+    Is w64 (toZ w64 (c .before .before .before .before .before .before .before .before .before .before .loop .sum) +ℤ toZ w64 (ofZ w64 (c .before .before .row-products .result)))
+    (sumTo (row (A .src0 .now) (A .den0 .now) (A .grid0) (A .src1 .now) (A .den1 .now) (A .grid1) (length (A .p .now))) (c .before .before .before .before .before .before .before .before .before .before .loop .r + 1))
+added c =
+    let S = c .before .before .before .before .before .before .before .before .before .before .before .before .before .before .before in
+    let A = S .args in
+    let H = c .before .before .before .before .before .before .before .before .before .before .loop in
+    let n = length (A .p .now) in
+    let G = row (A .src0 .now) (A .den0 .now) (A .grid0) (A .src1 .now) (A .den1 .now) (A .grid1) in
+    rows-turn (G n) (n * (4095 * 4095)) (A .rows) (lt-of-le-of-lt (mul-le-mul (S .pre .2) (mul-le-mul-right (4095 * 4095) (S .pre .3))) (lit< tt))
+    (λ r l. noise-sum-le (S .pre .0 r l) (S .pre .1 r l))
+    (H .r) (c .before .before .row-products .result) (search needs) (H .inv .3) (record { sfits = c .before .before .row-products .ok })
+    (c .before .before .row-products .ensures ∙ ap (λ (m : ℕ). G m (H .r)) (H .inv .1))
+
+add-sum : tie.Need-add-sum Inv-loop μ-loop
+add-sum c = fits (added c)
+
+add-r : tie.Need-add-r Inv-loop μ-loop
+add-r c = search needs
+
+loop-less : tie.Need-loop-less Inv-loop μ-loop
+loop-less c = search needs
+
+loop-again : tie.Need-loop-again Inv-loop μ-loop
+loop-again c =
+    let H = c .before .before .before .before .before .before .before .before .before .before .loop in
+    let kept = c .before .before .row-products .kept .1 .1 .1 .1 .1 .1 .1 .1 in
+    (omega arith, kept .0 ∙ H .inv .1, kept .1 .0 ∙ H .inv .2, again (added c) .eq)
+
+same-length : tie.Need-same-length Inv-loop μ-loop
+same-length c = search needs
+
+same-length-2 : tie.Need-same-length-2 Inv-loop μ-loop
+same-length-2 c = search needs
+
+returns : tie.Need-returns Inv-loop μ-loop
+returns c = let e : c .before .loop .r ≡ c .before .before .before .before .before .before .args .rows = omega arith in rw e at (c .before .loop .inv .3)
+
+pub grid-products-spec : {M : Type 1} → statement M
+grid-products-spec =
+    tie.close
+    (tie.spec
+    Inv-loop
+    μ-loop
+    loop-holds
+    mul-row-products
+    add-row-products
+    mul-row-products-2
+    add-row-products-2
+    row-products-requires
+    add-sum
+    add-r
+    loop-less
+    loop-again
+    same-length
+    same-length-2
+    returns)

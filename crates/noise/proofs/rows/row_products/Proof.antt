@@ -1,0 +1,60 @@
+-- `noise::rows::row_products` meets its contract: both lines hold the noise, and `dot` sums their products. Assumes nothing.
+use mathlib.Core.Path.{_≡_, sym, _∙_, subst}
+use Prim.Native.Nat.{ℕ, _+_, _*_, _^_}
+use borrow.Author.Needs.{needs}
+use lib.ListN.{length}
+use Rattle.laws.specs.Table.{tabulate}
+use Rattle.laws.proofs.Is.{again, self}
+use Rattle.noise.specs.Noise.{noise}
+use Rattle.noise.specs.Lines.{Places}
+use Rattle.noise.proofs.Lines.{looser}
+use Rattle.noise.proofs.NoiseSums.{noise-lines, noise-sum}
+use Rattle.noise.proofs.rows.row_products.Statement.{statement}
+use Rattle.noise.proofs.rows.row_products.Tie as tie
+
+noise-line-requires : tie.Need-noise-line-requires
+noise-line-requires c κs = looser (c .before .before .before .before .before .pre .0)
+
+noise-line-requires-2 : tie.Need-noise-line-requires-2
+noise-line-requires-2 c κs =
+    let S = c .before .before .before .before .before .before .before .before in
+    let A = S .args in
+    subst (λ (n : ℕ). Places (2 ^ 15) (A .src1 .now) (A .den1 .now) (A .start1) (A .stride1) n) (sym (S .pre .3)) (looser (S .pre .1))
+
+-- the second line, as long as the first
+second : (c : tie.After-q) → let A = c .before .before .before .before .before .before .before .before .before .before .args in
+    c .before .noise-line2 .last .1 .1 .1 .1 .0 ≡ tabulate (length (A .p .now)) (λ i. noise (A .src1 .now) (A .den1 .now) (A .start1 + i * A .stride1))
+second c =
+    let S = c .before .before .before .before .before .before .before .before .before .before in
+    let A = S .args in
+    subst (λ (n : ℕ). c .before .noise-line2 .last .1 .1 .1 .1 .0 ≡ tabulate n (λ i. noise (A .src1 .now) (A .den1 .now) (A .start1 + i * A .stride1)))
+    (S .pre .3) (c .before .noise-line2 .ensures)
+
+dot-requires : tie.Need-dot-requires
+dot-requires c κs =
+    let S = c .before .before .before .before .before .before .before .before .before .before .before .before in
+    noise-lines (S .pre .0) (S .pre .1) (c .before .before .before .before .before .before .noise-line .ensures) (second (c .before .before)) (S .pre .2)
+
+same-length : tie.Need-same-length
+same-length c = search needs
+
+same-length-2 : tie.Need-same-length-2
+same-length-2 c = search needs
+
+returns : tie.Need-returns
+returns c =
+    let S = c .before .before .before .before .before .before .before .before .before .before .before .before .before in
+    again (self (record { sfits = c .dot .ok })) .eq
+    ∙ c .dot .ensures
+    ∙ noise-sum (S .pre .0) (S .pre .1) (c .before .before .before .before .before .before .before .noise-line .ensures) (second (c .before .before .before))
+
+pub row-products-spec : {M : Type 1} → statement M
+row-products-spec =
+    tie.close
+    (tie.spec
+    noise-line-requires
+    noise-line-requires-2
+    dot-requires
+    same-length
+    same-length-2
+    returns)

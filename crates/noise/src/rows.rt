@@ -1,0 +1,118 @@
+// Sums of noise products over the rows of two planes.
+ghost use mathlib.Core.Path.{_≡_};
+ghost use Prim.Native.Nat.{_+_, _-_, _*_, _^_, _≤_};
+ghost use lib.IntN.{_*ℤ_};
+ghost use lib.ListN.{length};
+ghost use Rattle.laws.specs.Sums.{sumTo};
+ghost use Rattle.noise.specs.Noise.{noise, place};
+ghost use Rattle.noise.specs.Lines.{Places, Plane};
+ghost use Rattle.noise.specs.Grids.{sumOver, noiseAt, Rows};
+use crate::blocks::dot;
+use crate::line::noise_line;
+
+// Places of a plane: row r starts at start + r × step, and column c is c × stride further on.
+pub struct Grid {
+    pub start: usize,
+    pub step: usize,
+    pub stride: usize,
+}
+
+// The products of two lines of noise, each from a start and a stride of its own, summed. The lines are p and q.
+fn row_products(
+    src0: &[u16],
+    den0: &[u16],
+    start0: usize,
+    stride0: usize,
+    src1: &[u16],
+    den1: &[u16],
+    start1: usize,
+    stride1: usize,
+    p: &mut [i16],
+    q: &mut [i16],
+) -> i64
+    requires { ⌜ Places (2 ^ 12) (now src0) (now den0) start0 stride0 (length (now p)) × Places (2 ^ 12) (now src1) (now den1) start1 stride1 (length (now p)) × (length (now p) ≤ 2 ^ 12) × (length (now q) ≡ length (now p)) ⌝ }
+    ensures { λ r. ⌜ r ≡ sumTo (λ c. noise (now (src0 .entry)) (now (den0 .entry)) (start0 + c * stride0) *ℤ noise (now (src1 .entry)) (now (den1 .entry)) (start1 + c * stride1)) (length (now (p .entry))) ⌝ }
+{
+    noise_line(src0, den0, start0, stride0, p);
+    noise_line(src1, den1, start1, stride1, q);
+    dot(p, q)
+}
+
+// The noise of two planes at the places of two grids, multiplied and summed over rows and columns. The lines p and q have a place for each column.
+pub fn grid_products(
+    src0: &[u16],
+    den0: &[u16],
+    grid0: Grid,
+    src1: &[u16],
+    den1: &[u16],
+    grid1: Grid,
+    rows: usize,
+    p: &mut [i16],
+    q: &mut [i16],
+) -> i64
+    requires { ⌜ Rows (now src0) (now den0) grid0 rows (length (now p)) × Rows (now src1) (now den1) grid1 rows (length (now p)) × (rows ≤ 2 ^ 12) × (length (now p) ≤ 2 ^ 12) × (length (now q) ≡ length (now p)) ⌝ }
+    ensures { λ s. ⌜ s ≡ sumOver rows (length (now (p .entry))) (λ r c. noiseAt (now (src0 .entry)) (now (den0 .entry)) grid0 r c *ℤ noiseAt (now (src1 .entry)) (now (den1 .entry)) grid1 r c) ⌝ }
+{
+    let mut sum = 0i64;
+    let mut r = 0usize;
+    while r < rows {
+        let part = row_products(
+            src0,
+            den0,
+            grid0.start + r * grid0.step,
+            grid0.stride,
+            src1,
+            den1,
+            grid1.start + r * grid1.step,
+            grid1.stride,
+            p,
+            q,
+        );
+        sum = sum + part;
+        r += 1usize;
+    }
+    sum
+}
+
+fn blank_line() -> [i16; 4096] {
+    [0i16; 4096]
+}
+
+// A noise of the one plane times the noise of the other `lag` columns on, summed over h rows, w wide.
+pub fn lagged_products(
+    src0: &[u16],
+    den0: &[u16],
+    src1: &[u16],
+    den1: &[u16],
+    w: usize,
+    h: usize,
+    lag: usize,
+) -> i64
+    requires { ⌜ Plane w h (now src0) (now den0) × Plane w h (now src1) (now den1) × (w ≤ 4096) × (h ≤ 4096) × (lag ≤ w) ⌝ }
+    ensures { λ s. ⌜ s ≡ sumOver h (w - lag) (λ r c. noise (now (src0 .entry)) (now (den0 .entry)) (place w r c) *ℤ noise (now (src1 .entry)) (now (den1 .entry)) (place w r (c + lag))) ⌝ }
+{
+    let mut p = blank_line();
+    let mut q = blank_line();
+    let n = w - lag;
+    let grid0 = Grid {
+        start: 0usize,
+        step: w,
+        stride: 1usize,
+    };
+    let grid1 = Grid {
+        start: lag,
+        step: w,
+        stride: 1usize,
+    };
+    grid_products(
+        src0,
+        den0,
+        grid0,
+        src1,
+        den1,
+        grid1,
+        h,
+        &mut p[..n],
+        &mut q[..n],
+    )
+}
