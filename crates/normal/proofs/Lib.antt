@@ -1,3 +1,6 @@
 pub mod StartSums
 pub mod Squares
 pub mod Tables
+pub mod Adding
+pub mod Stored
+pub mod Passing

@@ -1,2 +1,3 @@
 pub mod Normal
 pub mod Starts
+pub mod Blocks

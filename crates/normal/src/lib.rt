@@ -1,3 +1,4 @@
 // The exact normal equations of a fit: sums of noise products over its window.
+mod blocks;
 mod starts;
 mod table;
