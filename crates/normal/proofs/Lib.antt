@@ -4,3 +4,5 @@ pub mod Tables
 pub mod Adding
 pub mod Stored
 pub mod Passing
+pub mod RowLines
+pub mod Filling

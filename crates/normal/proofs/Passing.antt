@@ -2,20 +2,19 @@
 use mathlib.Core.Path.{_≡_, refl, sym, ap, _∙_, subst}
 use mathlib.Core.List.{List, _++_}
 use mathlib.Core.Logic.{⊎-elim}
-use Prim.Native.Nat.{ℕ, zero, suc, _+_, _-_, _*_, _/_, _%_, _^_, _≤_, _<_}
-use native.Mathlib.Nat.{le-trans, le-of-eq, lt-of-lt-of-le, eq-or-lt-of-le, not-suc-le-zero, mul-le-mul-left, mul-le-mul-right, mul-one, div-lt-iff-lt-mul, div-add-mod', add-le-add, le-refl, mod-lt}
+use Prim.Native.Nat.{ℕ, _+_, _-_, _*_, _/_, _%_, _^_, _≤_, _<_}
+use native.Mathlib.Nat.{le-trans, le-of-eq, lt-of-lt-of-le, eq-or-lt-of-le, not-suc-le-zero, mul-le-mul-left, mul-le-mul-right, mul-one}
 use native.Mathlib.Numerals.{add-one-le}
 use native.Mathlib.Omega.{arith}
 use borrow.Author.Tests.{lt-ltb, le-ltb, le-leb, lt-leb}
 use lib.IntN.{ℤ, pos, natAbs, _+ℤ_, +ℤ-idr}
-use lib.ListN.{length, take, drop, length-drop}
-use lib.Seq.{getD-take, getD-drop, length-take-le}
+use lib.ListN.{length, take, drop}
 use Rattle.laws.specs.Table.{tabulate}
 use Rattle.noise.specs.Lines.{at}
 use Rattle.noise.proofs.LineSums.{entry, size}
 use Rattle.normal.specs.Blocks.{blockAt, ifPassed, Addable, Room, Added}
-use Rattle.normal.proofs.Squares.{row-end}
-use Rattle.normal.proofs.Stored.{Stored, stored}
+use Rattle.normal.proofs.Squares.{row-end, quotient}
+use Rattle.normal.proofs.Stored.{Stored, stored, part, part-length, part-at}
 
 -- ---- whether row r is passed
 module _ (rows r low : ℕ) (x : ℤ) where
@@ -39,25 +38,6 @@ block-end n z k h = le-trans (le-of-eq (sym (row-end k z))) (mul-le-mul-right k 
 -- number c of block z stands before the next block
 pub block-next : (z c k : ℕ) → c < k → z * k + c < (z + 1) * k
 block-next z c k h = omega (arith, row-end k z)
-
--- z / n and z % n of a place of a square
-module _ (n z : ℕ) (h : z < n * n) where
-  pub positive : 0 < n
-  positive = go n z h
-    where
-      go : (n z : ℕ) → z < n * n → 0 < n
-      go zero z h = absurd (not-suc-le-zero h)
-      go (suc n) z h = omega arith
-
-  pub quotient : z / n < n
-  quotient = div-lt-iff-lt-mul positive .1 h
-
-  pub remainder : z % n < n
-  remainder = mod-lt z positive
-
-  pub digits-le : z / n + z % n ≤ z
-  digits-le =
-      le-trans (add-le-add (le-trans (le-of-eq (sym (mul-one (z / n)))) (mul-le-mul-left (z / n) positive)) (le-refl (z % n))) (le-of-eq (div-add-mod' z n))
 
 module _ {sums tables : List ℤ} {starts r k : ℕ} (R : Room sums tables starts r k) where
   pub blocks-le : starts * starts ≤ length sums
@@ -105,40 +85,31 @@ module _ {before sums tables : List ℤ} {starts rows r k z : ℕ} (P : Passing 
 
   -- a block whose table is added: the parts lent, and what came back
   module _ (R : Room before tables starts r k) (h : z < starts * starts) (l : low ≤ r) where
-    abbrev part : List ℤ → ℕ → List ℤ
-    part list a = take (a + k - a) (drop a list)
-
-    part-length : (list : List ℤ) (a : ℕ) → a + k ≤ length list → length (part list a) ≡ k
-    part-length list a g = length-take-le (a + k - a) (drop a list) (rw (length-drop a list) (omega arith)) ∙ omega arith
-
-    part-at : (list : List ℤ) (a c : ℕ) → c < k → at (part list a) c ≡ at list (a + c)
-    part-at list a c m = getD-take (a + k - a) (drop a list) c (pos 0) (omega arith) ∙ getD-drop a list c (pos 0)
-
     sums-long : z * k + k ≤ length sums
     sums-long = le-trans (sums-end R z h) (le-of-eq (sym (P .same)))
 
-    sum-at : (c : ℕ) → c < k → at (part sums (z * k)) c ≡ blockAt before k z c
-    sum-at c m = part-at sums (z * k) c m ∙ P .rest (z * k + c) (omega arith)
+    sum-at : (c : ℕ) → c < k → at (part sums (z * k) k) c ≡ blockAt before k z c
+    sum-at c m = part-at sums (z * k) k c m ∙ P .rest (z * k + c) (omega arith)
 
     abbrev table : List ℤ
-    table = part tables (z / starts * k)
+    table = part tables (z / starts * k) k
 
-    pub passing-addable : Addable (part sums (z * k)) table
+    pub passing-addable : Addable (part sums (z * k) k) table
     passing-addable =
         record {
-          same = part-length sums (z * k) sums-long ∙ sym (part-length tables (z / starts * k) (tables-end R z h));
-          small = λ c m. let n : c < k = lt-of-lt-of-le m (le-of-eq (part-length sums (z * k) sums-long)) in
-              subst (λ (x : ℤ). natAbs x < 2 ^ 63) (λ i. sym (sum-at c n) i +ℤ sym (part-at tables (z / starts * k) c n) i) (R .small z c h n l);
+          same = part-length sums (z * k) k sums-long ∙ sym (part-length tables (z / starts * k) k (tables-end R z h));
+          small = λ c m. let n : c < k = lt-of-lt-of-le m (le-of-eq (part-length sums (z * k) k sums-long)) in
+              subst (λ (x : ℤ). natAbs x < 2 ^ 63) (λ i. sym (sum-at c n) i +ℤ sym (part-at tables (z / starts * k) k c n) i) (R .small z c h n l);
         }
 
-    module _ {new : List ℤ} (g : r - low < rows) (e : new ≡ tabulate (length (part sums (z * k))) (λ c. at (part sums (z * k)) c +ℤ at table c)) where
+    module _ {new : List ℤ} (g : r - low < rows) (e : new ≡ tabulate (length (part sums (z * k) k)) (λ c. at (part sums (z * k) k) c +ℤ at table c)) where
       new-length : length new ≡ k
-      new-length = size _ _ e ∙ part-length sums (z * k) sums-long
+      new-length = size _ _ e ∙ part-length sums (z * k) k sums-long
 
       new-at : (c : ℕ) → c < k → at new c ≡ blockAt before k z c +ℤ ifPassed rows r low (blockAt tables k (z / starts) c)
       new-at c m =
-          entry _ _ e c (lt-of-lt-of-le m (le-of-eq (sym (part-length sums (z * k) sums-long))))
-          ∙ (λ i. sum-at c m i +ℤ (part-at tables (z / starts * k) c m ∙ sym (passed-now rows r low (blockAt tables k (z / starts) c) l g)) i)
+          entry _ _ e c (lt-of-lt-of-le m (le-of-eq (sym (part-length sums (z * k) k sums-long))))
+          ∙ (λ i. sum-at c m i +ℤ (part-at tables (z / starts * k) k c m ∙ sym (passed-now rows r low (blockAt tables k (z / starts) c) l g)) i)
 
       pub passing-added : Passing before (take (z * k) sums ++ (new ++ drop (z * k + k - z * k) (drop (z * k) sums))) tables starts rows r k (z + 1)
       passing-added =

@@ -1,8 +1,8 @@
 -- A table of n × n numbers, filled in row order: where its entries stand, and the loops over rows and columns that fill it. Assumes nothing.
 use mathlib.Core.Path.{_≡_, sym, ap, _∙_}
 use mathlib.Core.List.{List}
-use Prim.Native.Nat.{ℕ, _+_, _-_, _*_, _/_, _%_, _≤_, _<_}
-use native.Mathlib.Nat.{zero-mul, add-zero, add-assoc, mul-comm, mul-le-mul-left, suc-mul, lt-of-lt-of-le, le-of-eq}
+use Prim.Native.Nat.{ℕ, zero, suc, _+_, _-_, _*_, _/_, _%_, _≤_, _<_}
+use native.Mathlib.Nat.{zero-mul, add-zero, add-assoc, add-le-add, mul-comm, mul-one, mul-le-mul-left, suc-mul, le-refl, le-trans, le-of-eq, lt-of-lt-of-le, not-suc-le-zero, div-lt-iff-lt-mul, div-add-mod', mod-lt}
 use native.Mathlib.Numerals.{add-one}
 use native.Mathlib.Omega.{arith}
 use lib.Arith.{digits-lt, digits-div, digits-mod}
@@ -10,7 +10,7 @@ use lib.IntN.{ℤ}
 use lib.ListN.{length, getD, take, set, length-set}
 use lib.Seq.{getD-take}
 use Rattle.laws.specs.Table.{tabulate}
-use Rattle.laws.proofs.Table.{getD-tabulate, tabulate-more, tabulate-at, tabulate-whole}
+use Rattle.laws.proofs.Table.{getD-tabulate, tabulate-same, tabulate-more, tabulate-at, tabulate-whole}
 use Rattle.normal.specs.Normal.{square}
 
 -- the end of a row is the next row's start
@@ -33,6 +33,29 @@ first-row n a h k = lt-of-lt-of-le (omega (arith, mul-comm a 2)) (mul-le-mul-lef
   where
     two : 2 ≤ n
     two = omega arith
+
+-- z / n and z % n of a place of a square
+module _ (n z : ℕ) (h : z < n * n) where
+  pub positive : 0 < n
+  positive = go n z h
+    where
+      go : (n z : ℕ) → z < n * n → 0 < n
+      go zero z h = absurd (not-suc-le-zero h)
+      go (suc n) z h = omega arith
+
+  pub quotient : z / n < n
+  quotient = div-lt-iff-lt-mul positive .1 h
+
+  pub remainder : z % n < n
+  remainder = mod-lt z positive
+
+  pub digits-le : z / n + z % n ≤ z
+  digits-le =
+      le-trans (add-le-add (le-trans (le-of-eq (sym (mul-one (z / n)))) (mul-le-mul-left (z / n) positive)) (le-refl (z % n))) (le-of-eq (div-add-mod' z n))
+
+-- equal entries
+pub square-ext : (n : ℕ) (f g : ℕ → ℕ → ℤ) → ((a b : ℕ) → a < n → b < n → f a b ≡ g a b) → square n f ≡ square n g
+square-ext n f g h = tabulate-same (n * n) (λ z. f (z / n) (z % n)) (λ z. g (z / n) (z % n)) (λ z l. h (z / n) (z % n) (quotient n z l) (remainder n z l))
 
 -- ---- filled up to row a and column b
 pub record Square (f : ℕ → ℕ → ℤ) (n : ℕ) (table : List ℤ) (a b : ℕ) : Type 0 where

@@ -6,8 +6,7 @@ use native.Mathlib.Nat.{le-trans, le-of-eq, le-of-lt, lt-of-le-of-lt, mul-le-mul
 use native.Mathlib.Omega.{arith}
 use lib.Dec.{lit<, lit≤}
 use lib.IntN.{ℤ, pos, negsuc, natAbs, _+ℤ_, _-ℤ_, _*ℤ_, *ℤ-comm}
-use lib.ListN.{length, take, drop, length-drop}
-use lib.Seq.{getD-take, getD-drop, length-take-le}
+use lib.ListN.{length}
 use mir.Syntax.{Width, w16, w64}
 use mir.Val.{SFits, ofZ, toZ}
 use Rattle.laws.specs.Sums.{sumTo}
@@ -16,6 +15,7 @@ use Rattle.laws.proofs.Whole.{abs-sub, abs-mul-le}
 use Rattle.laws.proofs.Is.{Is, self, again, wider, times, known}
 use Rattle.noise.specs.Lines.{at, product, Lines}
 use Rattle.normal.specs.Starts.{startSum, Small, Pair}
+use Rattle.normal.proofs.Stored.{part, part-length, part-at}
 
 module _ (f g : ℕ → ℤ) (n a b : ℕ) where
   abbrev term : ℕ → ℤ
@@ -44,40 +44,30 @@ module _ (f g : ℕ → ℤ) (n a b : ℕ) where
 
 -- ---- two lines
 module _ {up lo : List ℤ} {n a b : ℕ} (P : Pair up lo n a b) where
-  -- a part of a line, as the code takes it
-  abbrev part : List ℤ → ℕ → List ℤ
-  part line a = take (a + n - a) (drop a line)
-
-  part-length : (line : List ℤ) (a : ℕ) → a + n ≤ length line → length (part line a) ≡ n
-  part-length line a h = length-take-le (a + n - a) (drop a line) (rw (length-drop a line) (omega arith)) ∙ omega arith
-
-  part-at : (line : List ℤ) (a x : ℕ) → x < n → at (part line a) x ≡ at line (a + x)
-  part-at line a x h = getD-take (a + n - a) (drop a line) x (pos 0) (omega arith) ∙ getD-drop a line x (pos 0)
-
   up-le : (x : ℕ) → x < n → natAbs (at up (a + x)) ≤ 2 ^ 12 - 1
   up-le x h = le-of-suc-le-suc (P .up-small (a + x) (omega (arith, P .up-long)))
 
   lo-le : (x : ℕ) → x < n → natAbs (at lo (b + x)) ≤ 2 ^ 14 - 1
   lo-le x h = le-of-suc-le-suc (P .lo-small (b + x) (omega (arith, P .lo-long)))
 
-  products : (x : ℕ) → x < n → product (part up a) (part lo b) x ≡ at up (a + x) *ℤ at lo (b + x)
-  products x h i = part-at up a x h i *ℤ part-at lo b x h i
+  products : (x : ℕ) → x < n → product (part up a n) (part lo b n) x ≡ at up (a + x) *ℤ at lo (b + x)
+  products x h i = part-at up a n x h i *ℤ part-at lo b n x h i
 
-  pub pair-lines : Lines 32 (part up a) (part lo b)
+  pub pair-lines : Lines 32 (part up a n) (part lo b n)
   pair-lines =
       record {
-        same = part-length up a (P .up-long) ∙ sym (part-length lo b (P .lo-long));
-        few = rw (part-length up a (P .up-long)) (le-trans (P .few) (lit≤ tt));
-        small = λ x h. let l : x < n = rw (part-length up a (P .up-long)) at h in
+        same = part-length up a n (P .up-long) ∙ sym (part-length lo b n (P .lo-long));
+        few = rw (part-length up a n (P .up-long)) (le-trans (P .few) (lit≤ tt));
+        small = λ x h. let l : x < n = rw (part-length up a n (P .up-long)) at h in
             subst (λ (z : ℤ). 32 * natAbs z < 2 ^ 31) (sym (products x l))
             (lt-of-le-of-lt (mul-le-mul-left 32 (abs-mul-le (at up (a + x)) (at lo (b + x)) (2 ^ 12 - 1) (2 ^ 14 - 1) (up-le x l) (lo-le x l))) (lit< tt));
       }
 
-  pub pair-sum : sumTo (product (part up a) (part lo b)) (length (part up a)) ≡ startSum (at up) (at lo) n a b
+  pub pair-sum : sumTo (product (part up a n) (part lo b n)) (length (part up a n)) ≡ startSum (at up) (at lo) n a b
   unfolding startSum
   pair-sum =
-      ap (λ (m : ℕ). sumTo (product (part up a) (part lo b)) m) (part-length up a (P .up-long))
-      ∙ sum-ext (product (part up a) (part lo b)) (λ x. at up (a + x) *ℤ at lo (b + x)) n products
+      ap (λ (m : ℕ). sumTo (product (part up a n) (part lo b n)) m) (part-length up a n (P .up-long))
+      ∙ sum-ext (product (part up a n) (part lo b n)) (λ x. at up (a + x) *ℤ at lo (b + x)) n products
 
   pub pair-bound : natAbs (startSum (at up) (at lo) n a b) ≤ 2 ^ 38
   pair-bound =

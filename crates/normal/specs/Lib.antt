@@ -1,3 +1,4 @@
 pub mod Normal
 pub mod Starts
 pub mod Blocks
+pub mod Rows

@@ -1,4 +1,5 @@
 // The exact normal equations of a fit: sums of noise products over its window.
 mod blocks;
+mod rows;
 mod starts;
 mod table;

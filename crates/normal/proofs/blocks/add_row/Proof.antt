@@ -3,7 +3,8 @@ use mathlib.Core.Path.{refl}
 use Prim.Native.Nat.{_+_, _-_, _*_, _/_, _%_, _≤_, _<_}
 use native.Mathlib.Omega.{arith}
 use lib.ListN.{length}
-use Rattle.normal.proofs.Passing.{Passing, passing-starts, passing-by, passing-addable, passing-added, passing-ends, passed-before, passed-after, blocks-le, sums-end, tables-end, positive, digits-le}
+use Rattle.normal.proofs.Passing.{Passing, passing-starts, passing-by, passing-addable, passing-added, passing-ends, passed-before, passed-after, blocks-le, sums-end, tables-end}
+use Rattle.normal.proofs.Squares.{positive, digits-le}
 use borrow.Author.Needs.{needs}
 use Rattle.normal.proofs.blocks.add_row.Statement.{statement}
 use Rattle.normal.proofs.blocks.add_row.Tie as tie
