@@ -6,3 +6,4 @@ pub mod Stored
 pub mod Passing
 pub mod RowLines
 pub mod Filling
+pub mod Held

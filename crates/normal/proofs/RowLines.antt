@@ -67,3 +67,7 @@ module _ {source denoised : List ℕ} {g : Grid} {w h n side : ℕ} (P : Plot so
           square-ext side (startSum (at up) (at lo) n) (startSum (f u) (f v) n)
           (λ a b l m. start-ext (at up) (at lo) n a b (f u) (f v)
           (λ x k. entry w (f u) eu (a + x) (within a x l k)) (λ x k. entry w (f v) el (b + x) (within b x m k)))
+
+-- fewer rows
+pub plot-rows : {source denoised : List ℕ} {g : Grid} {w h n side : ℕ} (m : ℕ) → m ≤ h → Plot source denoised g w h n side → Plot source denoised g w m n side
+plot-rows m l P = record { rows = λ r k. P .rows r (lt-of-lt-of-le k l); narrow = P .narrow; low = le-trans l (P .low); wide = P .wide; some = P .some }

@@ -79,3 +79,30 @@ fn row_tables(
         d += 1usize;
     }
 }
+
+// The sums over `rows` pairs of rows, for every two of `starts` start rows. Every row of the grid passes once.
+pub fn pass_rows(
+    src: &[u16],
+    den: &[u16],
+    grid: Grid,
+    h: usize,
+    rows: usize,
+    starts: usize,
+    n: usize,
+    side: usize,
+    up: &mut [i16],
+    lo: &mut [i16],
+    tables: &mut [i64],
+    sums: &mut [i64],
+)
+    requires { ⌜ Plot (now src) (now den) grid (length (now up)) h n side × (rows + starts ≡ h + 1) × (length (now lo) ≡ length (now up)) × (length (now tables) ≡ starts * (side * side)) × Zeros (starts * starts * (side * side)) (now sums) ⌝ }
+    ensures { λ _. ⌜ PlaneSums (noiseAt (now (src .entry)) (now (den .entry)) grid) n side starts rows (now (sums .exit)) ⌝ }
+{
+    let k = side * side;
+    let mut r = 0usize;
+    while r < h {
+        row_tables(src, den, grid, r, starts, n, side, up, lo, tables);
+        add_row(sums, tables, starts, rows, r, k);
+        r += 1usize;
+    }
+}
