@@ -7,3 +7,4 @@ pub mod Passing
 pub mod RowLines
 pub mod Filling
 pub mod Held
+pub mod Pairs

@@ -16,6 +16,10 @@ use Rattle.normal.specs.Starts.{startSum}
 abbrev pub blockAt : List ℤ → ℕ → ℕ → ℕ → ℤ
 blockAt l k z c = at l (z * k + c)
 
+-- for places i and j of a square of neighbours, counted along its rows, i not after j: the block of their rows, and their columns in it
+abbrev pub pairAt : List ℤ → ℕ → ℕ → ℕ → ℕ → ℤ
+pairAt l starts side i j = blockAt l (side * side) ((j / side - i / side) * starts + i / side) (i % side * side + j % side)
+
 -- two lists of one length whose sums an i64 holds
 pub record Addable (sums more : List ℤ) : Type 0 where
   pub same : length sums ≡ length more

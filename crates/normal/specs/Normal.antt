@@ -1,6 +1,6 @@
 -- "In a fit: of the sample's noise, its neighbours' noises and, for chroma, the luma average, any two multiplied or any one squared." The exact sums of these products over the places where a fit has all its factors.
 use mathlib.Core.List.{List}
-use Prim.Native.Nat.{ℕ, _+_, _-_, _*_, _/_, _%_}
+use Prim.Native.Nat.{ℕ, _+_, _-_, _*_, _/_, _%_, _^_, _≤_}
 use lib.IntN.{ℤ, _*ℤ_}
 use Rattle.laws.specs.Sums.{span}
 use Rattle.laws.specs.Table.{tabulate}
@@ -23,6 +23,14 @@ neighbour f lag i y x = f (y - lag + i / side lag) (x - lag + i % side lag)
 -- the window, where all neighbours exist: rows lag to h - 1 and columns lag to w - lag - 1. Two pictures multiplied place by place and summed over it
 unfoldable pub windowSum : ℕ → ℕ → ℕ → Picture → Picture → ℤ
 windowSum w h lag f g = span (λ y. span (λ x. f y x *ℤ g y x) lag (w - 2 * lag)) lag (h - lag)
+
+-- the sizes and lags of fits
+pub record Window (w h lag : ℕ) : Type 0 where
+  pub few : lag ≤ 3
+  pub columns : 2 * lag ≤ w
+  pub rows : lag ≤ h
+  pub narrow : w ≤ 2 ^ 12
+  pub low : h ≤ 2 ^ 12
 
 -- neighbours i and j; the sample itself is neighbour 2×lag×(lag+1)
 abbrev pub entry : Picture → ℕ → ℕ → ℕ → ℕ → ℕ → ℤ

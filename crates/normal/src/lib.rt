@@ -1,5 +1,6 @@
 // The exact normal equations of a fit: sums of noise products over its window.
 mod blocks;
+mod plane;
 mod rows;
 mod starts;
 mod table;
