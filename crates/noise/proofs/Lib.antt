@@ -7,3 +7,5 @@ pub mod NoiseSums
 pub mod Grids
 pub mod Quarters
 pub mod Averages
+pub mod ChromaSize
+pub mod ChromaSums

@@ -1,19 +1,19 @@
 -- Two lines given by their entries, which are at most a and b in size: they are lines for any block of products that an i32 holds, the sum of their products is that of the entries, and so large at most. Assumes nothing.
 use mathlib.Core.Path.{_≡_, sym, ap, _∙_, subst}
 use mathlib.Core.List.{List}
-use Prim.Native.Nat.{ℕ, _+_, _*_, _^_, _≤_, _<_}
-use native.Mathlib.Nat.{le-trans, le-of-eq, lt-of-le-of-lt, lt-of-lt-of-le, mul-le-mul-left, mul-le-mul-right}
+use Prim.Native.Nat.{ℕ, _+_, _*_, _^_, _≤_, _<_, zero-le, suc-le-suc}
+use native.Mathlib.Nat.{le-trans, le-of-eq, lt-of-le-of-lt, lt-of-lt-of-le, one-mul, mul-le-mul-left, mul-le-mul-right}
 use native.Mathlib.Numerals.{add-one-le}
 use lib.IntN.{ℤ, pos, natAbs, _+ℤ_, _*ℤ_}
 use lib.ListN.{length}
 use mir.Syntax.{w64}
-use mir.Val.{SFits, ofZ, toZ}
+use mir.Val.{ofZ, toZ}
 use Rattle.laws.specs.Table.{tabulate}
 use Rattle.laws.specs.Sums.{sumTo}
 use Rattle.laws.proofs.Table.{length-tabulate, getD-tabulate}
 use Rattle.laws.proofs.Whole.{abs-mul-le}
 use Rattle.laws.proofs.Sums.{sum-ext, sum-bound, sum-more}
-use Rattle.laws.proofs.Is.{Is, self, again, known}
+use Rattle.laws.proofs.Is.{Is, again, known}
 use Rattle.noise.specs.Lines.{at, product, Lines}
 
 -- an entry of a line
@@ -47,8 +47,12 @@ module _ (n : ℕ) (f g : ℕ → ℤ) (a b : ℕ) (hf : (i : ℕ) → i < n →
         }
 
 -- an i64 to which the sums of rows are added, each at most `most` in size: s holds the sum so far, and row r gave t
-pub rows-turn : (g : ℕ → ℤ) (most rows : ℕ) → rows * most < 2 ^ 63 → ((r : ℕ) → r < rows → natAbs (g r) ≤ most)
-    → (r : ℕ) {s : ℤ} (t : ℤ) → r < rows → s ≡ sumTo g r → SFits w64 t → t ≡ g r → Is w64 (s +ℤ toZ w64 (ofZ w64 t)) (sumTo g (r + 1))
-rows-turn g most rows h k r t l e f d =
-    known ((λ j. e j +ℤ (again (self f) .eq ∙ d) j) ∙ sum-more g r)
-    (lt-of-le-of-lt (sum-bound g most (r + 1) (λ i m. k i (lt-of-lt-of-le m (add-one-le l)))) (lt-of-le-of-lt (mul-le-mul-right most (add-one-le l)) h))
+module _ (g : ℕ → ℤ) (most rows : ℕ) (h : rows * most < 2 ^ 63) (small : (r : ℕ) → r < rows → natAbs (g r) ≤ most) where
+  rows-lt : (n : ℕ) → n ≤ rows → natAbs (sumTo g n) < 2 ^ 63
+  rows-lt n l = lt-of-le-of-lt (sum-bound g most n (λ i m. small i (lt-of-lt-of-le m l))) (lt-of-le-of-lt (mul-le-mul-right most l) h)
+
+  row-lt : (r : ℕ) → r < rows → natAbs (g r) < 2 ^ 63
+  row-lt r l = lt-of-le-of-lt (small r l) (lt-of-le-of-lt (le-trans (le-of-eq (sym (one-mul most))) (mul-le-mul-right most (le-trans (suc-le-suc zero-le) l))) h)
+
+  pub rows-turn : (r : ℕ) {s : ℤ} (t : ℤ) → r < rows → s ≡ sumTo g r → t ≡ g r → Is w64 (s +ℤ toZ w64 (ofZ w64 t)) (sumTo g (r + 1))
+  rows-turn r t l e d = known ((λ j. e j +ℤ again {w = w64} (known d (row-lt r l)) .eq j) ∙ sum-more g r) (rows-lt (r + 1) (add-one-le l))

@@ -4,3 +4,4 @@ pub mod Average
 pub mod Lines
 pub mod Grids
 pub mod Quarters
+pub mod AverageSums

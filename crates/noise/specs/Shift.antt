@@ -1,8 +1,7 @@
--- "d is the noise shifted right arithmetically by depth−8": a whole number shifted right is its quotient by a power of two, rounded down.
-use Prim.Native.Nat.{ℕ, _/_, _^_}
-use lib.IntN.{ℤ, pos, negsuc}
+-- "d is the noise shifted right arithmetically by depth−8".
+use Prim.Native.Nat.{ℕ, _^_}
+use lib.IntN.{ℤ}
+use lib.Signed.{shrZ}
 
--- negsuc n is −(n + 1)
-unfoldable pub shifted : ℕ → ℤ → ℤ
-shifted shift (pos n) = pos (n / 2 ^ shift)
-shifted shift (negsuc n) = negsuc (n / 2 ^ shift)
+abbrev pub shifted : ℕ → ℤ → ℤ
+shifted shift z = shrZ z (2 ^ shift)

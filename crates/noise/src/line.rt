@@ -1,6 +1,7 @@
 // Lines of noise, worked out from two planes of samples.
 ghost use mathlib.Core.Path.{_≡_};
-ghost use Prim.Native.Nat.{_+_, _*_, _^_, _<_};
+ghost use Prim.Native.Nat.{ℕ, _+_, _*_, _^_, _<_};
+ghost use lib.IntN.{pos};
 ghost use lib.ListN.{length};
 ghost use Rattle.laws.specs.Table.{tabulate};
 ghost use Rattle.noise.specs.Noise.{noise, place};
@@ -22,7 +23,7 @@ fn noise_places(src: &[u16], den: &[u16], start: usize, stride: usize, line: &mu
     }
 }
 
-// The same. A stride of 1 is written out: the back end makes packed differences of that loop, and of no other.
+// The same. With a stride of 1 written out, the back end makes packed loads and differences of the loop.
 pub fn noise_line(src: &[u16], den: &[u16], start: usize, stride: usize, line: &mut [i16])
     requires { ⌜ Places (2 ^ 15) (now src) (now den) start stride (length (now line)) ⌝ }
     ensures { λ _. ⌜ now (line .exit) ≡ tabulate (length (now (line .entry))) (λ i. noise (now (src .entry)) (now (den .entry)) (start + i * stride)) ⌝ }
@@ -53,4 +54,11 @@ pub fn shifted_line(line: &[i16], shift: u32, out: &mut [i16])
         out[i] = x >> shift;
         i += 1usize;
     }
+}
+
+// A line of zeros to work in, long enough for every row.
+pub fn blank_line() -> [i16; 4096]
+    ensures { λ line. ⌜ ((i : ℕ) → at line i ≡ pos 0) ⌝ }
+{
+    [0i16; 4096]
 }

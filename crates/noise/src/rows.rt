@@ -8,6 +8,7 @@ ghost use Rattle.noise.specs.Noise.{noise, place};
 ghost use Rattle.noise.specs.Lines.{Places, Plane};
 ghost use Rattle.noise.specs.Grids.{sumOver, noiseAt, Rows};
 use crate::blocks::dot;
+use crate::line::blank_line;
 use crate::line::noise_line;
 
 // Places of a plane: row r starts at start + r × step, and column c is c × stride further on.
@@ -72,10 +73,6 @@ pub fn grid_products(
         r += 1usize;
     }
     sum
-}
-
-fn blank_line() -> [i16; 4096] {
-    [0i16; 4096]
 }
 
 // A noise of the one plane times the noise of the other `lag` columns on, summed over h rows, w wide.

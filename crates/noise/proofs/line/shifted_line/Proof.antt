@@ -48,7 +48,7 @@ loop-less c = simp length-set (omega arith)
 loop-again : tie.Need-loop-again Inv-loop μ-loop
 loop-again c =
     let S = c .before .before .before in
-    fill-turn _ _ _ (c .before .before .loop .inv) (search needs) (again (shift-is (S .args .shift) (record { sfits = c .x .given })) .eq)
+    fill-turn _ _ _ (c .before .before .loop .inv) (search needs) (again (shift-is (S .args .shift) (at (S .args .line .now) (c .before .before .loop .i)) (record { sfits = c .x .given })) .eq)
 
 same-length : tie.Need-same-length Inv-loop μ-loop
 same-length c = search needs

@@ -66,7 +66,7 @@ added c =
     let G = row (A .src0 .now) (A .den0 .now) (A .grid0) (A .src1 .now) (A .den1 .now) (A .grid1) in
     rows-turn (G n) (n * (4095 * 4095)) (A .rows) (lt-of-le-of-lt (mul-le-mul (S .pre .2) (mul-le-mul-right (4095 * 4095) (S .pre .3))) (lit< tt))
     (λ r l. noise-sum-le (S .pre .0 r l) (S .pre .1 r l))
-    (H .r) (c .before .before .row-products .result) (search needs) (H .inv .3) (record { sfits = c .before .before .row-products .ok })
+    (H .r) (c .before .before .row-products .result) (search needs) (H .inv .3)
     (c .before .before .row-products .ensures ∙ ap (λ (m : ℕ). G m (H .r)) (H .inv .1))
 
 add-sum : tie.Need-add-sum Inv-loop μ-loop
