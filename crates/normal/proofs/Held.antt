@@ -24,7 +24,7 @@ use Rattle.normal.proofs.Squares.{quotient, remainder}
 use Rattle.normal.proofs.Passing.{passed-before, passed-after, passed-now, block-end}
 use Rattle.normal.proofs.RowLines.{rows-bound}
 
-lt-or-ge : (a b : ℕ) → (a < b) ⊎ (b ≤ a)
+pub lt-or-ge : (a b : ℕ) → (a < b) ⊎ (b ≤ a)
 lt-or-ge a b = go (ltb a b) (ltb-true a b) (ltb-false a b)
   where
     go : (t : Bool) → (t ≡ true → a < b) → (t ≡ false → b ≤ a) → (a < b) ⊎ (b ≤ a)

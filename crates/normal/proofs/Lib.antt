@@ -8,3 +8,5 @@ pub mod RowLines
 pub mod Filling
 pub mod Held
 pub mod Pairs
+pub mod Entries
+pub mod Sizes
