@@ -17,7 +17,7 @@ use Rattle.normal.specs.Blocks.{pairAt}
 use Rattle.normal.specs.Rows.{Plot, PlaneSums, pairSum}
 use Rattle.normal.proofs.Squares.{square-ext}
 use Rattle.normal.proofs.Pairs.{rows-order, row-in, place-in, side-some}
-use Rattle.normal.proofs.Held.{lt-or-ge}
+use Rattle.normal.proofs.Cases.{lt-or-ge}
 
 -- the window's place y + lag, from the window's first
 back : (lag y u : ℕ) → lag + y - lag + u ≡ u + y

@@ -1,12 +1,13 @@
+pub mod Cases
+pub mod Stored
 pub mod StartSums
 pub mod Squares
 pub mod Tables
 pub mod Adding
-pub mod Stored
 pub mod Passing
 pub mod RowLines
 pub mod Filling
 pub mod Held
 pub mod Pairs
-pub mod Entries
 pub mod Sizes
+pub mod Entries

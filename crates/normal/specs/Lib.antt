@@ -2,3 +2,4 @@ pub mod Normal
 pub mod Starts
 pub mod Blocks
 pub mod Rows
+pub mod Taps

@@ -4,3 +4,4 @@ mod plane;
 mod rows;
 mod starts;
 mod table;
+mod tap;
