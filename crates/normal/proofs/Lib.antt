@@ -11,3 +11,4 @@ pub mod Held
 pub mod Pairs
 pub mod Sizes
 pub mod Entries
+pub mod TapRows

@@ -46,7 +46,7 @@ fn pair_table(
 }
 
 // The lesser of two numbers.
-fn fewer(a: usize, b: usize) -> usize
+pub fn fewer(a: usize, b: usize) -> usize
     ensures { λ r. ⌜ r ≡ min a b ⌝ }
 {
     if a <= b { a } else { b }

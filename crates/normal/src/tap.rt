@@ -1,12 +1,18 @@
 // Sums of chroma noise and luma averages: what the luma tap adds to the normal equations of a chroma plane.
 ghost use mathlib.Core.Path.{_≡_};
+ghost use Prim.Native.Nat.{_+_, _-_, _*_, _/_, _%_};
 ghost use lib.IntN.{_+ℤ_};
 ghost use lib.ListN.{length};
 ghost use Rattle.laws.specs.Table.{tabulate};
 ghost use Rattle.noise.specs.Lines.{at};
+ghost use Rattle.noise.specs.Grids.{noiseAt};
+ghost use Rattle.normal.specs.Normal.{side, factors};
 ghost use Rattle.normal.specs.Starts.{startSum};
-ghost use Rattle.normal.specs.Taps.{TapRoom};
+ghost use Rattle.normal.specs.Taps.{TapRoom, TapRow};
+use crate::rows::fewer;
+use crate::rows::grid_line;
 use crate::starts::start_sum;
+use noise::Grid;
 
 // taps[c] = taps[c] + line[c] × averages[lag] + line[c + 1] × averages[lag + 1] + .., n products.
 fn add_taps(line: &[i16], averages: &[i16], n: usize, lag: usize, taps: &mut [i64])
@@ -19,5 +25,33 @@ fn add_taps(line: &[i16], averages: &[i16], n: usize, lag: usize, taps: &mut [i6
         let y = start_sum(line, averages, n, c, lag);
         taps[c] = x + y;
         c += 1usize;
+    }
+}
+
+// Row y + lag's products with its luma averages: neighbour i is i / (2 × lag + 1) rows below row y.
+fn tap_row(
+    src: &[u16],
+    den: &[u16],
+    grid: Grid,
+    w: usize,
+    y: usize,
+    lag: usize,
+    averages: &[i16],
+    line: &mut [i16],
+    taps: &mut [i64],
+)
+    requires { ⌜ TapRow (now src) (now den) grid w y lag (now averages) (now taps) × (length (now line) ≡ w) ⌝ }
+    ensures { λ _. ⌜ now (taps .exit) ≡ tabulate (factors lag) (λ i. at (now (taps .entry)) i +ℤ startSum (noiseAt (now (src .entry)) (now (den .entry)) grid (y + i / side lag)) (at (now (averages .entry))) (w - 2 * lag) (i % side lag) lag) ⌝ }
+{
+    let side = 2usize * lag + 1usize;
+    let n = w - 2usize * lag;
+    let count = taps.len();
+    let mut u = 0usize;
+    while u <= lag {
+        let first = u * side;
+        let end = first + fewer(side, count - first);
+        grid_line(src, den, grid, y + u, line);
+        add_taps(line, averages, n, lag, &mut taps[first..end]);
+        u += 1usize;
     }
 }
