@@ -12,3 +12,4 @@ pub mod Pairs
 pub mod Sizes
 pub mod Entries
 pub mod TapRows
+pub mod AverageRows

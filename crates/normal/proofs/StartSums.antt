@@ -42,7 +42,29 @@ module _ (f g : ℕ → ℤ) (n a b : ℕ) where
   unfolding startSum
   start-bound c d p q = sum-bound term (c * d) n (λ x l. abs-mul-le (f (a + x)) (g (b + x)) c d (p x l) (q x l))
 
--- ---- two lines
+-- ---- two parts of lines whose numbers are at most c and d in size
+module _ (up lo : List ℤ) (n a b c d : ℕ) (up-long : a + n ≤ length up) (lo-long : b + n ≤ length lo)
+    (up-le : (x : ℕ) → x < n → natAbs (at up (a + x)) ≤ c) (lo-le : (x : ℕ) → x < n → natAbs (at lo (b + x)) ≤ d) where
+  products : (x : ℕ) → x < n → product (part up a n) (part lo b n) x ≡ at up (a + x) *ℤ at lo (b + x)
+  products x h i = part-at up a n x h i *ℤ part-at lo b n x h i
+
+  pub parts-lines : (count : ℕ) → count * (c * d) < 2 ^ 31 → n ≤ 2 ^ 12 → Lines count (part up a n) (part lo b n)
+  parts-lines count fits few =
+      record {
+        same = part-length up a n up-long ∙ sym (part-length lo b n lo-long);
+        few = rw (part-length up a n up-long) (le-trans few (lit≤ tt));
+        small = λ x h. let l : x < n = rw (part-length up a n up-long) at h in
+            subst (λ (z : ℤ). count * natAbs z < 2 ^ 31) (sym (products x l))
+            (lt-of-le-of-lt (mul-le-mul-left count (abs-mul-le (at up (a + x)) (at lo (b + x)) c d (up-le x l) (lo-le x l))) fits);
+      }
+
+  pub parts-sum : sumTo (product (part up a n) (part lo b n)) (length (part up a n)) ≡ startSum (at up) (at lo) n a b
+  unfolding startSum
+  parts-sum =
+      ap (λ (m : ℕ). sumTo (product (part up a n) (part lo b n)) m) (part-length up a n up-long)
+      ∙ sum-ext (product (part up a n) (part lo b n)) (λ x. at up (a + x) *ℤ at lo (b + x)) n products
+
+-- ---- a line of noise, and one of noise or of averages
 module _ {up lo : List ℤ} {n a b : ℕ} (P : Pair up lo n a b) where
   up-le : (x : ℕ) → x < n → natAbs (at up (a + x)) ≤ 2 ^ 12 - 1
   up-le x h = le-of-suc-le-suc (P .up-small (a + x) (omega (arith, P .up-long)))
@@ -50,29 +72,27 @@ module _ {up lo : List ℤ} {n a b : ℕ} (P : Pair up lo n a b) where
   lo-le : (x : ℕ) → x < n → natAbs (at lo (b + x)) ≤ 2 ^ 14 - 1
   lo-le x h = le-of-suc-le-suc (P .lo-small (b + x) (omega (arith, P .lo-long)))
 
-  products : (x : ℕ) → x < n → product (part up a n) (part lo b n) x ≡ at up (a + x) *ℤ at lo (b + x)
-  products x h i = part-at up a n x h i *ℤ part-at lo b n x h i
-
   pub pair-lines : Lines 32 (part up a n) (part lo b n)
-  pair-lines =
-      record {
-        same = part-length up a n (P .up-long) ∙ sym (part-length lo b n (P .lo-long));
-        few = rw (part-length up a n (P .up-long)) (le-trans (P .few) (lit≤ tt));
-        small = λ x h. let l : x < n = rw (part-length up a n (P .up-long)) at h in
-            subst (λ (z : ℤ). 32 * natAbs z < 2 ^ 31) (sym (products x l))
-            (lt-of-le-of-lt (mul-le-mul-left 32 (abs-mul-le (at up (a + x)) (at lo (b + x)) (2 ^ 12 - 1) (2 ^ 14 - 1) (up-le x l) (lo-le x l))) (lit< tt));
-      }
+  pair-lines = parts-lines up lo n a b (2 ^ 12 - 1) (2 ^ 14 - 1) (P .up-long) (P .lo-long) up-le lo-le 32 (lit< tt) (P .few)
 
   pub pair-sum : sumTo (product (part up a n) (part lo b n)) (length (part up a n)) ≡ startSum (at up) (at lo) n a b
-  unfolding startSum
-  pair-sum =
-      ap (λ (m : ℕ). sumTo (product (part up a n) (part lo b n)) m) (part-length up a n (P .up-long))
-      ∙ sum-ext (product (part up a n) (part lo b n)) (λ x. at up (a + x) *ℤ at lo (b + x)) n products
+  pair-sum = parts-sum up lo n a b (2 ^ 12 - 1) (2 ^ 14 - 1) (P .up-long) (P .lo-long) up-le lo-le
 
   pub pair-bound : natAbs (startSum (at up) (at lo) n a b) ≤ 2 ^ 38
   pair-bound =
       le-trans (start-bound (at up) (at lo) n a b (2 ^ 12 - 1) (2 ^ 14 - 1) up-le lo-le)
       (le-trans (mul-le-mul-right ((2 ^ 12 - 1) * (2 ^ 14 - 1)) (P .few)) (lit≤ tt))
+
+-- ---- a line of averages and itself
+module _ (line : List ℤ) (n a : ℕ) (long : a + n ≤ length line) (few : n ≤ 2 ^ 12) (small : Small (2 ^ 14) line) where
+  line-le : (x : ℕ) → x < n → natAbs (at line (a + x)) ≤ 2 ^ 14 - 1
+  line-le x h = le-of-suc-le-suc (small (a + x) (omega arith))
+
+  pub own-lines : Lines 8 (part line a n) (part line a n)
+  own-lines = parts-lines line line n a a (2 ^ 14 - 1) (2 ^ 14 - 1) long long line-le line-le 8 (lit< tt) few
+
+  pub own-sum : sumTo (product (part line a n) (part line a n)) (length (part line a n)) ≡ startSum (at line) (at line) n a a
+  own-sum = parts-sum line line n a a (2 ^ 14 - 1) (2 ^ 14 - 1) long long line-le line-le
 
 -- ---- as the code computes them: an i16 as an i64, and the product of two
 pub wide64 : (z : ℤ) → SFits w16 z → Is w64 (toZ w16 (ofZ w16 z)) z

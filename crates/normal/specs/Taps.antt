@@ -25,3 +25,10 @@ pub record TapRow (source denoised : List ℕ) (g : Grid) (w y lag : ℕ) (avera
   pub averages-small : Small (2 ^ 14) averages
   pub length-taps : length taps ≡ factors lag
   pub small : (i : ℕ) → i < factors lag → natAbs (at taps i +ℤ startSum (noiseAt source denoised g (y + i / side lag)) (at averages) (w - 2 * lag) (i % side lag) lag) < 2 ^ 63
+
+-- a luma plane over a chroma plane of cw columns and ch rows: every chroma row has a luma row
+pub record Over (l : Luma) (cw ch : ℕ) : Type 0 where
+  pub plane : Plane (l .width) (l .height) (l .source) (l .denoised)
+  pub narrow : l .width ≤ 2 ^ 12
+  pub columns-are : cw ≡ columns (subX (l .format)) (l .width)
+  pub rows-in : (r : ℕ) → r < ch → r * 2 ^ subY (l .format) < l .height

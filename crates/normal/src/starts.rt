@@ -1,11 +1,12 @@
 // Sums of the products of two lines, by the place at which each starts.
 ghost use mathlib.Core.Path.{_≡_};
-ghost use Prim.Native.Nat.{_+_, _<_};
+ghost use Prim.Native.Nat.{_+_, _^_, _≤_, _<_};
 ghost use lib.IntN.{_*ℤ_};
 ghost use lib.ListN.{length};
 ghost use Rattle.noise.specs.Lines.{at};
-ghost use Rattle.normal.specs.Starts.{startSum, Pair};
+ghost use Rattle.normal.specs.Starts.{startSum, Small, Pair};
 use noise::dot;
+use noise::dot_wide;
 
 // up[a] × lo[b] + up[a + 1] × lo[b + 1] + .., n products.
 pub fn start_sum(up: &[i16], lo: &[i16], n: usize, a: usize, b: usize) -> i64
@@ -15,6 +16,16 @@ pub fn start_sum(up: &[i16], lo: &[i16], n: usize, a: usize, b: usize) -> i64
     let up_end = a + n;
     let lo_end = b + n;
     dot(&up[a..up_end], &lo[b..lo_end])
+}
+
+// line[a]² + line[a + 1]² + .., n squares of luma averages.
+pub fn square_sum(line: &[i16], n: usize, a: usize) -> i64
+    requires { ⌜ (a + n ≤ length (now line)) × (n ≤ 2 ^ 12) × Small (2 ^ 14) (now line) ⌝ }
+    ensures { λ r. ⌜ r ≡ startSum (at (now (line .entry))) (at (now (line .entry))) n a a ⌝ }
+{
+    let end = a + n;
+    let part = &line[a..end];
+    dot_wide(part, part)
 }
 
 // up[a] × lo[b].
