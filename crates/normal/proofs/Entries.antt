@@ -20,7 +20,7 @@ use Rattle.normal.proofs.Pairs.{rows-order, row-in, place-in, side-some
 use Rattle.normal.proofs.Cases.{lt-or-ge}
 
 -- the window's place y + lag, from the window's first
-back : (lag y u : ℕ) → lag + y - lag + u ≡ u + y
+pub back : (lag y u : ℕ) → lag + y - lag + u ≡ u + y
 back lag y u = omega arith
 
 pub window-swap : (w h lag : ℕ) (f g : Picture) → windowSum w h lag f g ≡ windowSum w h lag g f

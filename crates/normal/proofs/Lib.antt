@@ -13,3 +13,4 @@ pub mod Sizes
 pub mod Entries
 pub mod TapRows
 pub mod AverageRows
+pub mod TapSums

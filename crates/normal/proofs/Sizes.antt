@@ -7,7 +7,8 @@ use native.Mathlib.Omega.{arith}
 use lib.IntN.{ℤ, pos}
 use lib.ListN.{length, getD, take, replicate}
 use lib.Seq.{getD-take, length-take-le}
-use Rattle.noise.specs.Lines.{at}
+use Rattle.laws.specs.Table.{tabulate}
+use Rattle.noise.proofs.LineSums.{entry, size}
 use Rattle.normal.specs.Normal.{side, factors}
 use Rattle.normal.specs.Rows.{Zeros}
 
@@ -46,3 +47,7 @@ zeros-front {n} {l} m h Z =
       size = length-take-le m l (rw (Z .size) h);
       zero = λ i k. getD-take m l i (pos 0) k ∙ Z .zero i (lt-of-lt-of-le k h);
     }
+
+-- a table of them
+pub zeros-table : {l : List ℤ} (n : ℕ) → l ≡ tabulate n (λ i. pos 0) → Zeros n l
+zeros-table n e = record { size = size n (λ i. pos 0) e; zero = entry n (λ i. pos 0) e }

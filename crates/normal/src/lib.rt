@@ -5,3 +5,6 @@ mod rows;
 mod starts;
 mod table;
 mod tap;
+
+pub use plane::plane_sums;
+pub use tap::tap_sums;

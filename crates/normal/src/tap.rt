@@ -10,13 +10,15 @@ ghost use Rattle.noise.specs.Average.{quarters};
 ghost use Rattle.noise.specs.Quarters.{luma};
 ghost use Rattle.normal.specs.Normal.{side, factors};
 ghost use Rattle.normal.specs.Starts.{startSum};
-ghost use Rattle.normal.specs.Taps.{TapRoom, TapRow, Over};
+ghost use Rattle.normal.specs.Rows.{Zeros};
+ghost use Rattle.normal.specs.Taps.{TapRoom, TapRow, Over, Planes, TapSums};
 use crate::rows::fewer;
 use crate::rows::grid_line;
 use crate::starts::square_sum;
 use crate::starts::start_sum;
 use noise::Grid;
 use noise::average_line;
+use noise::blank_line;
 
 // taps[c] = taps[c] + line[c] × averages[lag] + line[c + 1] × averages[lag + 1] + .., n products.
 fn add_taps(line: &[i16], averages: &[i16], n: usize, lag: usize, taps: &mut [i64])
@@ -79,4 +81,116 @@ fn average_squares(
 {
     average_line(src, den, w, h, format, r, top, bottom, averages);
     square_sum(averages, n, lag)
+}
+
+// All rows of the window, for both components: the averages of a row serve both. The lines have a place for each column.
+fn tap_rows(
+    src: &[u16],
+    den: &[u16],
+    w: usize,
+    h: usize,
+    format: u8,
+    cb: &[u16],
+    dcb: &[u16],
+    cr: &[u16],
+    dcr: &[u16],
+    grid: Grid,
+    cw: usize,
+    ch: usize,
+    lag: usize,
+    top: &mut [i16],
+    bottom: &mut [i16],
+    averages: &mut [i16],
+    line: &mut [i16],
+    cbtaps: &mut [i64],
+    crtaps: &mut [i64],
+) -> i64
+    requires { ⌜ Planes (luma (now src) (now den) w h format) (now cb) (now dcb) (now cr) (now dcr) grid cw ch lag × (length (now top) ≡ w) × (length (now bottom) ≡ w) × (length (now averages) ≡ cw) × (length (now line) ≡ cw) × Zeros (factors lag) (now cbtaps) × Zeros (factors lag) (now crtaps) ⌝ }
+    ensures { λ s. ⌜ TapSums (luma (now (src .entry)) (now (den .entry)) w h format) (now (cb .entry)) (now (dcb .entry)) (now (cr .entry)) (now (dcr .entry)) grid cw ch lag s (now (cbtaps .exit)) (now (crtaps .exit)) ⌝ }
+{
+    let n = cw - 2usize * lag;
+    let rows = ch - lag;
+    let mut squares = 0i64;
+    let mut y = 0usize;
+    while y < rows {
+        let part = average_squares(
+            src,
+            den,
+            w,
+            h,
+            format,
+            y + lag,
+            n,
+            lag,
+            top,
+            bottom,
+            averages,
+        );
+        squares = squares + part;
+        tap_row(cb, dcb, grid, cw, y, lag, averages, line, cbtaps);
+        tap_row(cr, dcr, grid, cw, y, lag, averages, line, crtaps);
+        y += 1usize;
+    }
+    squares
+}
+
+// Zeros throughout.
+fn clear(sums: &mut [i64])
+    ensures { λ _. ⌜ Zeros (length (now (sums .entry))) (now (sums .exit)) ⌝ }
+{
+    let mut i = 0usize;
+    while i < sums.len() {
+        sums[i] = 0i64;
+        i += 1usize;
+    }
+}
+
+// taps[i] = Σ neighbour i × luma average over the window, in quarters, for each component; the result is Σ average², in sixteenths.
+pub fn tap_sums(
+    src: &[u16],
+    den: &[u16],
+    w: usize,
+    h: usize,
+    format: u8,
+    cb: &[u16],
+    dcb: &[u16],
+    cr: &[u16],
+    dcr: &[u16],
+    grid: Grid,
+    cw: usize,
+    ch: usize,
+    lag: usize,
+    cbtaps: &mut [i64],
+    crtaps: &mut [i64],
+) -> i64
+    requires { ⌜ Planes (luma (now src) (now den) w h format) (now cb) (now dcb) (now cr) (now dcr) grid cw ch lag × (length (now cbtaps) ≡ factors lag) × (length (now crtaps) ≡ factors lag) ⌝ }
+    ensures { λ s. ⌜ TapSums (luma (now (src .entry)) (now (den .entry)) w h format) (now (cb .entry)) (now (dcb .entry)) (now (cr .entry)) (now (dcr .entry)) grid cw ch lag s (now (cbtaps .exit)) (now (crtaps .exit)) ⌝ }
+{
+    let mut top = blank_line();
+    let mut bottom = blank_line();
+    let mut averages = blank_line();
+    let mut line = blank_line();
+    clear(cbtaps);
+    clear(crtaps);
+    tap_rows(
+        src,
+        den,
+        w,
+        h,
+        format,
+        cb,
+        dcb,
+        cr,
+        dcr,
+        grid,
+        cw,
+        ch,
+        lag,
+        &mut top[..w],
+        &mut bottom[..w],
+        &mut averages[..cw],
+        &mut line[..cw],
+        cbtaps,
+        crtaps,
+    )
 }
