@@ -18,19 +18,12 @@ use Rattle.normal.specs.Rows.{Plot, PlaneSums, pairSum}
 use Rattle.normal.proofs.Squares.{square-ext}
 use Rattle.normal.proofs.Pairs.{rows-order, row-in, place-in, side-some}
 use Rattle.normal.proofs.Cases.{lt-or-ge}
+use Rattle.normal.proofs.Sizes.{factors-le}
+use Rattle.normal.proofs.Bounds.{window-swap}
 
 -- the window's place y + lag, from the window's first
 pub back : (lag y u : ℕ) → lag + y - lag + u ≡ u + y
 back lag y u = omega arith
-
-pub window-swap : (w h lag : ℕ) (f g : Picture) → windowSum w h lag f g ≡ windowSum w h lag g f
-unfolding windowSum
-window-swap w h lag f g =
-    sum-ext _ _ (h - lag) (λ y l. sum-ext _ _ (w - 2 * lag) (λ x k. *ℤ-comm (f (lag + y) (lag + x)) (g (lag + y) (lag + x))))
-
--- all neighbours, with the sample, lie in the rows of the square
-pub factors-le : (lag : ℕ) → factors lag ≤ (lag + 1) * side lag
-factors-le lag = omega (arith, mul-add (lag + 1) (2 * lag) 1, mul-comm (2 * lag) (lag + 1))
 
 module _ (f : Picture) (w h lag : ℕ) {sums : List ℤ} (S : PlaneSums f (w - 2 * lag) (side lag) (lag + 1) (h - lag) sums) where
   abbrev s : ℕ

@@ -10,7 +10,8 @@ pub mod Filling
 pub mod Held
 pub mod Pairs
 pub mod Sizes
+pub mod AverageRows
+pub mod Bounds
 pub mod Entries
 pub mod TapRows
-pub mod AverageRows
 pub mod TapSums

@@ -1,8 +1,8 @@
--- How much room a fit's window takes, at lags up to 3: its rows and columns of neighbours, its tables, its sums and its entries. Assumes nothing.
+-- How many neighbours a sample has, how much room their sums take at lags up to 3, and zeros to begin with. Assumes nothing.
 use mathlib.Core.Path.{_≡_, refl, _∙_, subst}
 use mathlib.Core.List.{List}
 use Prim.Native.Nat.{ℕ, zero, suc, _+_, _*_, _≤_, _<_}
-use native.Mathlib.Nat.{lt-of-lt-of-le, mul-le-mul}
+use native.Mathlib.Nat.{lt-of-lt-of-le, mul-add, mul-comm, mul-le-mul}
 use native.Mathlib.Omega.{arith}
 use lib.IntN.{ℤ, pos}
 use lib.ListN.{length, getD, take, replicate}
@@ -12,6 +12,14 @@ use Rattle.noise.proofs.LineSums.{entry, size}
 use Rattle.normal.specs.Normal.{side, factors}
 use Rattle.normal.specs.Rows.{Zeros}
 
+-- all neighbours, with the sample, lie in lag + 1 rows of the square: whole rows, and those up to the sample in its own
+pub factors-le : (lag : ℕ) → factors lag ≤ (lag + 1) * side lag
+factors-le lag = omega (arith, mul-add (lag + 1) (2 * lag) 1, mul-comm (2 * lag) (lag + 1))
+
+pub factors-rows : (lag : ℕ) → factors lag ≡ lag * side lag + (lag + 1)
+factors-rows lag = omega (arith, mul-add lag (2 * lag) 1, mul-add (2 * lag) lag 1, mul-comm lag (2 * lag))
+
+-- ---- at lags up to 3
 module _ {lag : ℕ} (h : lag ≤ 3) where
   pub starts-le : lag + 1 ≤ 4
   starts-le = omega arith

@@ -23,11 +23,8 @@ use Rattle.normal.proofs.Squares.{row-end}
 use Rattle.normal.proofs.StartSums.{start-ext}
 use Rattle.normal.proofs.Adding.{Adding, adding-starts, adding-part, adding-ends}
 use Rattle.normal.proofs.RowLines.{line-small}
-use Rattle.normal.proofs.Entries.{factors-le, window-plot}
-
--- whole rows of neighbours, and those up to the sample in its own row
-pub factors-rows : (lag : ℕ) → factors lag ≡ lag * side lag + (lag + 1)
-factors-rows lag = omega (arith, mul-add lag (2 * lag) 1, mul-add (2 * lag) lag 1, mul-comm lag (2 * lag))
+use Rattle.normal.proofs.Entries.{window-plot}
+use Rattle.normal.proofs.Sizes.{factors-le, factors-rows}
 
 -- what is added for neighbour i
 abbrev pub gainOf : Picture → ℕ → ℕ → ℕ → List ℤ → ℕ → ℤ

@@ -27,7 +27,8 @@ use Rattle.normal.specs.Rows.{Zeros}
 use Rattle.normal.specs.Taps.{Over, TapRow, Planes, TapSums}
 use Rattle.normal.proofs.StartSums.{start-ext, start-bound}
 use Rattle.normal.proofs.Adding.{table-is}
-use Rattle.normal.proofs.Entries.{back, factors-le}
+use Rattle.normal.proofs.Entries.{back}
+use Rattle.normal.proofs.Sizes.{factors-le}
 use Rattle.normal.proofs.TapRows.{gainOf}
 use Rattle.normal.proofs.AverageRows.{average-le, averages-small}
 

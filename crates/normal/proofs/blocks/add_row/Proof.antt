@@ -8,9 +8,6 @@ use Rattle.normal.proofs.Squares.{positive, digits-le}
 use borrow.Author.Needs.{needs}
 use Rattle.normal.proofs.blocks.add_row.Statement.{statement}
 use Rattle.normal.proofs.blocks.add_row.Tie as tie
-use Rattle.normal.proofs.blocks.add_row.Reads as reads
-use Rattle.normal.proofs.blocks.add_row.Lts as lts
-use Rattle.normal.proofs.blocks.add_to.Reads as add-to-reads
 
 abbrev Inv-loop : tie.InvT-loop
 Inv-loop sums₀ tables starts rows r k z₀ sums z = (z ≤ starts * starts) × Adding (gain tables starts rows r k) sums₀ sums (z * k)

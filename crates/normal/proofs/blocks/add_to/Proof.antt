@@ -13,8 +13,6 @@ use Rattle.normal.proofs.Adding.{Adding, adding-starts, added-is, addin
 use borrow.Author.Needs.{needs}
 use Rattle.normal.proofs.blocks.add_to.Statement.{statement}
 use Rattle.normal.proofs.blocks.add_to.Tie as tie
-use Rattle.normal.proofs.blocks.add_to.Reads as reads
-use Rattle.normal.proofs.blocks.add_to.Lts as lts
 
 abbrev Inv-loop : tie.InvT-loop
 Inv-loop sums₀ more i₀ sums i = Adding (at more) sums₀ sums i

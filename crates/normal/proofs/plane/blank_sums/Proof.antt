@@ -4,8 +4,6 @@ use Rattle.normal.proofs.Sizes.{zeros}
 use borrow.Author.Needs.{needs}
 use Rattle.normal.proofs.plane.blank_sums.Statement.{statement}
 use Rattle.normal.proofs.plane.blank_sums.Tie as tie
-use Rattle.normal.proofs.plane.blank_sums.Reads as reads
-use Rattle.normal.proofs.plane.blank_sums.Lts as lts
 
 returns : tie.Need-returns
 returns c = zeros 784 refl

@@ -8,9 +8,6 @@ use Rattle.normal.proofs.Squares.{Square, square-starts, square-in, squ
 use borrow.Author.Needs.{needs}
 use Rattle.normal.proofs.plane.copy_entries.Statement.{statement}
 use Rattle.normal.proofs.plane.copy_entries.Tie as tie
-use Rattle.normal.proofs.plane.copy_entries.Reads as reads
-use Rattle.normal.proofs.plane.copy_entries.Lts as lts
-use Rattle.normal.proofs.plane.entry_at.Reads as entry-at-reads
 
 abbrev Inv-loop2 : tie.InvT-loop2
 Inv-loop2 sums starts side order matrix₀ i j₀ matrix j = Square (λ i j. pairAt sums starts side (min i j) (max i j)) order matrix i j

@@ -6,9 +6,6 @@ use Rattle.normal.proofs.StartSums.{kept}
 use borrow.Author.Needs.{needs}
 use Rattle.normal.proofs.plane.entry_at.Statement.{statement}
 use Rattle.normal.proofs.plane.entry_at.Tie as tie
-use Rattle.normal.proofs.plane.entry_at.Reads as reads
-use Rattle.normal.proofs.plane.entry_at.Lts as lts
-use Rattle.normal.proofs.plane.ordered_entry.Reads as ordered-entry-reads
 
 ordered-entry-requires : tie.Need-ordered-entry-requires
 ordered-entry-requires c κs = search needs

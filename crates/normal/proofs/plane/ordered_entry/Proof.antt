@@ -4,8 +4,6 @@ use Rattle.normal.proofs.Pairs.{PairIn, pair-in}
 use borrow.Author.Needs.{needs}
 use Rattle.normal.proofs.plane.ordered_entry.Statement.{statement}
 use Rattle.normal.proofs.plane.ordered_entry.Tie as tie
-use Rattle.normal.proofs.plane.ordered_entry.Reads as reads
-use Rattle.normal.proofs.plane.ordered_entry.Lts as lts
 
 facts : (c : tie.Start) → PairIn (c .args .starts) (c .args .side) (c .args .i) (c .args .j)
 facts c = pair-in (c .args .starts) (c .args .side) (c .args .i) (c .args .j) (c .pre .0) (c .pre .1)

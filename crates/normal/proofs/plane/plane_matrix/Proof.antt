@@ -5,15 +5,11 @@ use native.Mathlib.Omega.{arith}
 use Rattle.noise.specs.Grids.{noiseAt}
 use Rattle.normal.specs.Normal.{side}
 use Rattle.normal.specs.Rows.{Plot}
-use Rattle.normal.proofs.Entries.{window-plot, factors-le, matrix-is}
-use Rattle.normal.proofs.Sizes.{neighbours-le}
+use Rattle.normal.proofs.Entries.{window-plot, matrix-is}
+use Rattle.normal.proofs.Sizes.{factors-le, neighbours-le}
 use borrow.Author.Needs.{needs}
 use Rattle.normal.proofs.plane.plane_matrix.Statement.{statement}
 use Rattle.normal.proofs.plane.plane_matrix.Tie as tie
-use Rattle.normal.proofs.plane.plane_matrix.Reads as reads
-use Rattle.normal.proofs.plane.plane_matrix.Lts as lts
-use Rattle.normal.proofs.plane.copy_entries.Reads as copy-entries-reads
-use Rattle.normal.proofs.rows.pass_rows.Reads as pass-rows-reads
 
 add-starts : tie.Need-add-starts
 add-starts c = search needs

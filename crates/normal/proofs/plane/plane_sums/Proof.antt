@@ -7,12 +7,6 @@ use Rattle.normal.proofs.Sizes.{row-le, all-le, zeros-front}
 use borrow.Author.Needs.{needs}
 use Rattle.normal.proofs.plane.plane_sums.Statement.{statement}
 use Rattle.normal.proofs.plane.plane_sums.Tie as tie
-use Rattle.normal.proofs.plane.plane_sums.Reads as reads
-use Rattle.normal.proofs.plane.plane_sums.Lts as lts
-use Rattle.noise.proofs.blank_line.Reads as blank-line-reads
-use Rattle.normal.proofs.plane.blank_sums.Reads as blank-sums-reads
-use Rattle.normal.proofs.plane.blank_tables.Reads as blank-tables-reads
-use Rattle.normal.proofs.plane.plane_matrix.Reads as plane-matrix-reads
 
 blank-line-requires : tie.Need-blank-line-requires
 blank-line-requires c κs = search needs

@@ -3,9 +3,6 @@ use Rattle.noise.proofs.Lines.{looser}
 use borrow.Author.Needs.{needs}
 use Rattle.normal.proofs.rows.grid_line.Statement.{statement}
 use Rattle.normal.proofs.rows.grid_line.Tie as tie
-use Rattle.normal.proofs.rows.grid_line.Reads as reads
-use Rattle.normal.proofs.rows.grid_line.Lts as lts
-use Rattle.noise.proofs.noise_line.Reads as noise-line-reads
 
 mul-noise-line : tie.Need-mul-noise-line
 mul-noise-line c = search needs

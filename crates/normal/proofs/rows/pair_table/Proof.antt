@@ -10,10 +10,6 @@ use Rattle.normal.proofs.RowLines.{rows-strip, rows-table}
 use borrow.Author.Needs.{needs}
 use Rattle.normal.proofs.rows.pair_table.Statement.{statement}
 use Rattle.normal.proofs.rows.pair_table.Tie as tie
-use Rattle.normal.proofs.rows.pair_table.Reads as reads
-use Rattle.normal.proofs.rows.pair_table.Lts as lts
-use Rattle.normal.proofs.rows.grid_line.Reads as grid-line-reads
-use Rattle.normal.proofs.table.line_table.Reads as line-table-reads
 
 line-table-requires : tie.Need-line-table-requires
 line-table-requires c κs =

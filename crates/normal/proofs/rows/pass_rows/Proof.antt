@@ -10,10 +10,6 @@ use Rattle.normal.proofs.Held.{Held, held-starts, held-turn, held-room,
 use borrow.Author.Needs.{needs}
 use Rattle.normal.proofs.rows.pass_rows.Statement.{statement}
 use Rattle.normal.proofs.rows.pass_rows.Tie as tie
-use Rattle.normal.proofs.rows.pass_rows.Reads as reads
-use Rattle.normal.proofs.rows.pass_rows.Lts as lts
-use Rattle.normal.proofs.blocks.add_row.Reads as add-row-reads
-use Rattle.normal.proofs.rows.row_tables.Reads as row-tables-reads
 
 abbrev Inv-loop : tie.InvT-loop
 Inv-loop src den grid h rows starts n side up₀ lo₀ tables₀ sums₀ k r₀ up lo tables sums r = (k ≡ side * side) × (length up ≡ length up₀) × (length lo ≡ length lo₀) × (length tables ≡ length tables₀) × (r ≤ h) × Held (noiseAt src den grid) n side starts rows r sums

@@ -13,11 +13,6 @@ use Rattle.normal.proofs.Filling.{Filling, filling-starts, filling-star
 use borrow.Author.Needs.{needs}
 use Rattle.normal.proofs.rows.row_tables.Statement.{statement}
 use Rattle.normal.proofs.rows.row_tables.Tie as tie
-use Rattle.normal.proofs.rows.row_tables.Reads as reads
-use Rattle.normal.proofs.rows.row_tables.Lts as lts
-use Rattle.normal.proofs.rows.fewer.Reads as fewer-reads
-use Rattle.normal.proofs.rows.grid_line.Reads as grid-line-reads
-use Rattle.normal.proofs.rows.pair_table.Reads as pair-table-reads
 
 abbrev Inv-loop : tie.InvT-loop
 Inv-loop src den grid r starts n side up₀ lo tables₀ k end d₀ up tables d = (k ≡ side * side) × (end ≡ min starts (r + 1)) × (length up ≡ length up₀) × (lo ≡ tabulate (length up₀) (noiseAt src den grid r)) × Filling (noiseAt src den grid) n side starts r tables d

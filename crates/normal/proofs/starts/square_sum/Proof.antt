@@ -4,9 +4,6 @@ use Rattle.normal.proofs.StartSums.{kept, own-lines, own-sum}
 use borrow.Author.Needs.{needs}
 use Rattle.normal.proofs.starts.square_sum.Statement.{statement}
 use Rattle.normal.proofs.starts.square_sum.Tie as tie
-use Rattle.normal.proofs.starts.square_sum.Reads as reads
-use Rattle.normal.proofs.starts.square_sum.Lts as lts
-use Rattle.noise.proofs.dot_wide.Reads as dot-wide-reads
 
 add-end : tie.Need-add-end
 add-end c = search needs

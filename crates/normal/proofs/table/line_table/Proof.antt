@@ -11,9 +11,6 @@ use Rattle.normal.proofs.Squares.{Square, square-starts, square-at, squ
 use borrow.Author.Needs.{needs}
 use Rattle.normal.proofs.table.line_table.Statement.{statement}
 use Rattle.normal.proofs.table.line_table.Tie as tie
-use Rattle.normal.proofs.table.line_table.Reads as reads
-use Rattle.normal.proofs.table.line_table.Lts as lts
-use Rattle.normal.proofs.table.next_sum.Reads as next-sum-reads
 
 abbrev Inv-loop2 : tie.InvT-loop2
 Inv-loop2 up lo twin n side table₀ a b₀ table b = Square (startSum (at up) (at lo) n) side table a b

@@ -10,10 +10,6 @@ use Rattle.normal.proofs.Tables.{strip-pair, back-in, back-is, mirror-i
 use borrow.Author.Needs.{needs}
 use Rattle.normal.proofs.table.next_sum.Statement.{statement}
 use Rattle.normal.proofs.table.next_sum.Tie as tie
-use Rattle.normal.proofs.table.next_sum.Reads as reads
-use Rattle.normal.proofs.table.next_sum.Lts as lts
-use Rattle.normal.proofs.starts.slid_sum.Reads as slid-sum-reads
-use Rattle.normal.proofs.starts.start_sum.Reads as start-sum-reads
 
 start-sum-requires : tie.Need-start-sum-requires
 start-sum-requires c κs = search needs

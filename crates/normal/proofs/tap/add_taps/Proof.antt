@@ -13,9 +13,6 @@ use Rattle.normal.proofs.Adding.{Adding, adding-starts, added-is, addin
 use borrow.Author.Needs.{needs}
 use Rattle.normal.proofs.tap.add_taps.Statement.{statement}
 use Rattle.normal.proofs.tap.add_taps.Tie as tie
-use Rattle.normal.proofs.tap.add_taps.Reads as reads
-use Rattle.normal.proofs.tap.add_taps.Lts as lts
-use Rattle.normal.proofs.starts.start_sum.Reads as start-sum-reads
 
 abbrev Inv-loop : tie.InvT-loop
 Inv-loop line averages n lag taps₀ c₀ taps c = Adding (λ k. startSum (at line) (at averages) n k lag) taps₀ taps c

@@ -13,10 +13,6 @@ use Rattle.normal.proofs.AverageRows.{averages-are, averages-small, squ
 use borrow.Author.Needs.{needs}
 use Rattle.normal.proofs.tap.average_squares.Statement.{statement}
 use Rattle.normal.proofs.tap.average_squares.Tie as tie
-use Rattle.normal.proofs.tap.average_squares.Reads as reads
-use Rattle.normal.proofs.tap.average_squares.Lts as lts
-use Rattle.noise.proofs.average_line.Reads as average-line-reads
-use Rattle.normal.proofs.starts.square_sum.Reads as square-sum-reads
 
 next : (r : ℕ) → r < r + 1
 next r = omega arith

@@ -9,8 +9,6 @@ use Rattle.normal.proofs.Sizes.{zeros-table}
 use borrow.Author.Needs.{needs}
 use Rattle.normal.proofs.tap.clear.Statement.{statement}
 use Rattle.normal.proofs.tap.clear.Tie as tie
-use Rattle.normal.proofs.tap.clear.Reads as reads
-use Rattle.normal.proofs.tap.clear.Lts as lts
 
 abbrev Inv-loop : tie.InvT-loop
 Inv-loop sums₀ i₀ sums i = Filled (λ k. pos 0) sums₀ sums i

@@ -16,11 +16,6 @@ use Rattle.normal.proofs.TapRows.{gainOf, taps-start, taps-end, first-i
 use borrow.Author.Needs.{needs}
 use Rattle.normal.proofs.tap.tap_row.Statement.{statement}
 use Rattle.normal.proofs.tap.tap_row.Tie as tie
-use Rattle.normal.proofs.tap.tap_row.Reads as reads
-use Rattle.normal.proofs.tap.tap_row.Lts as lts
-use Rattle.normal.proofs.rows.fewer.Reads as fewer-reads
-use Rattle.normal.proofs.rows.grid_line.Reads as grid-line-reads
-use Rattle.normal.proofs.tap.add_taps.Reads as add-taps-reads
 
 abbrev Inv-loop : tie.InvT-loop
 Inv-loop src den grid w y lag averages line₀ taps₀ side n count u₀ line taps u = (side ≡ 2 * lag + 1) × (n ≡ w - 2 * lag) × (count ≡ length taps₀) × (length line ≡ w) × (u ≤ lag + 1) × Adding (gainOf (noiseAt src den grid) w y lag averages) taps₀ taps (min (u * (2 * lag + 1)) (length taps₀))

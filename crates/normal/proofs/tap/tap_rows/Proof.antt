@@ -22,10 +22,6 @@ use Rattle.normal.proofs.TapSums.{TapsHeld, taps-held, taps-done, row-b
 use borrow.Author.Needs.{needs}
 use Rattle.normal.proofs.tap.tap_rows.Statement.{statement}
 use Rattle.normal.proofs.tap.tap_rows.Tie as tie
-use Rattle.normal.proofs.tap.tap_rows.Reads as reads
-use Rattle.normal.proofs.tap.tap_rows.Lts as lts
-use Rattle.normal.proofs.tap.average_squares.Reads as average-squares-reads
-use Rattle.normal.proofs.tap.tap_row.Reads as tap-row-reads
 
 abbrev Inv-loop : tie.InvT-loop
 Inv-loop src den w h format cb dcb cr dcr grid cw ch lag top₀ bottom₀ averages₀ line₀ cbtaps₀ crtaps₀ n rows squares₀ y₀ top bottom averages line cbtaps crtaps squares y = (n ≡ cw - 2 * lag) × (rows ≡ ch - lag) × (length top ≡ w) × (length bottom ≡ w) × (length averages ≡ cw) × (length line ≡ cw) × (y ≤ rows) × TapsHeld (luma src den w h format) cb dcb cr dcr grid cw lag y (toZ w64 squares) cbtaps crtaps

@@ -6,11 +6,6 @@ use Rattle.normal.specs.Rows.{Zeros}
 use borrow.Author.Needs.{needs}
 use Rattle.normal.proofs.tap.tap_sums.Statement.{statement}
 use Rattle.normal.proofs.tap.tap_sums.Tie as tie
-use Rattle.normal.proofs.tap.tap_sums.Reads as reads
-use Rattle.normal.proofs.tap.tap_sums.Lts as lts
-use Rattle.noise.proofs.blank_line.Reads as blank-line-reads
-use Rattle.normal.proofs.tap.clear.Reads as clear-reads
-use Rattle.normal.proofs.tap.tap_rows.Reads as tap-rows-reads
 
 blank-line-requires : tie.Need-blank-line-requires
 blank-line-requires c κs = search needs
