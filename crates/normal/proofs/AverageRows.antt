@@ -1,12 +1,11 @@
 -- A line of a chroma row's luma averages: its numbers, their size, and the sums of their products with another line. Assumes nothing.
 use mathlib.Core.Path.{_≡_, sym, ap, _∙_}
 use mathlib.Core.List.{List}
-use Prim.Native.Nat.{ℕ, _+_, _*_, _^_, _≤_, _<_}
+use Prim.Native.Nat.{ℕ, _+_, _^_, _≤_, _<_}
 use native.Mathlib.Nat.{le-trans, le-of-eq, lt-of-le-of-lt, lt-of-lt-of-le}
 use native.Mathlib.Omega.{arith}
 use lib.Dec.{lit<}
 use lib.IntN.{ℤ, natAbs}
-use lib.ListN.{length}
 use Rattle.laws.specs.Table.{tabulate}
 use Rattle.noise.specs.Lines.{at}
 use Rattle.noise.specs.Average.{Luma, subX, quarters}
@@ -14,10 +13,10 @@ use Rattle.noise.specs.Quarters.{columns}
 use Rattle.noise.proofs.Averages.{quarters-le}
 use Rattle.noise.proofs.LineSums.{entry, size}
 use Rattle.normal.specs.Starts.{startSum, Small}
-use Rattle.normal.specs.Taps.{Over}
+use Rattle.normal.specs.Calls.{LumaOver}
 use Rattle.normal.proofs.StartSums.{start-ext}
 
-module _ (l : Luma) {cw ch : ℕ} (O : Over l cw ch) (r : ℕ) (in-rows : r < ch) where
+module _ (l : Luma) {cw ch : ℕ} (O : LumaOver l cw ch) (r : ℕ) (in-rows : r < ch) where
   pub average-le : (c : ℕ) → c < cw → natAbs (quarters l r c) ≤ 16380
   average-le c k = quarters-le (O .plane) (l .format) r (O .rows-in r in-rows) c (lt-of-lt-of-le k (le-of-eq (O .columns-are)))
 

@@ -2,7 +2,7 @@
 use mathlib.Core.Path.{_≡_, ap, _∙_}
 use mathlib.Core.List.{List}
 use Prim.Native.Nat.{ℕ, _+_, _-_, _*_, _/_, _%_, _^_, _≤_, _<_}
-use native.Mathlib.Nat.{le-trans, lt-of-lt-of-le, mul-le-mul, mul-add, mul-comm, div-lt-iff-lt-mul, mod-lt}
+use native.Mathlib.Nat.{le-trans, lt-of-lt-of-le, mul-le-mul, div-lt-iff-lt-mul, mod-lt}
 use native.Mathlib.Omega.{arith}
 use lib.Arith.{digits-div, digits-mod}
 use lib.Dec.{lit≤}
@@ -14,8 +14,8 @@ use Rattle.noise.specs.Average.{Luma, quarters}
 use Rattle.noise.specs.Grids.{Rows, noiseAt}
 use Rattle.noise.specs.declared.rows.Grid.{Grid}
 use Rattle.noise.proofs.Lines.{noise-le}
-use Rattle.normal.specs.Normal.{Picture, side, neighbours, factors, neighbour, windowSum, Window, entry, tapEntry, tapSquare}
-use Rattle.normal.specs.Taps.{Over}
+use Rattle.normal.specs.Normal.{Picture, side, neighbours, factors, neighbour, windowSum, entry, tapEntry, tapSquare}
+use Rattle.normal.specs.Calls.{Window, LumaOver}
 use Rattle.normal.proofs.Sizes.{factors-le, factors-rows}
 use Rattle.normal.proofs.AverageRows.{average-le}
 
@@ -84,12 +84,12 @@ module _ {w h lag : ℕ} (W : Window w h lag) where
         le-trans (window-bound w h lag 4095 4095 _ _ (noise-small i k) (noise-small j l)) (le-trans (within (4095 * 4095) (2 ^ 24) (lit≤ tt)) (lit≤ tt))
 
     -- with the luma tap
-    pub tap-bound : {l : Luma} → Over l w h → (i : ℕ) → i < factors lag → natAbs (tapEntry (noiseAt source denoised g) (quarters l) w h lag i) ≤ 2 ^ 50
+    pub tap-bound : {l : Luma} → LumaOver l w h → (i : ℕ) → i < factors lag → natAbs (tapEntry (noiseAt source denoised g) (quarters l) w h lag i) ≤ 2 ^ 50
     tap-bound {l} O i k =
         le-trans (window-bound w h lag 4095 16380 _ _ (noise-small i k) (λ y x a b c d. average-le l O y b x (omega arith)))
         (le-trans (within (4095 * 16380) (2 ^ 26) (lit≤ tt)) (lit≤ tt))
 
-  pub square-bound : {l : Luma} → Over l w h → natAbs (tapSquare (quarters l) w h lag) ≤ 2 ^ 52
+  pub square-bound : {l : Luma} → LumaOver l w h → natAbs (tapSquare (quarters l) w h lag) ≤ 2 ^ 52
   square-bound {l} O =
       le-trans (window-bound w h lag 16380 16380 _ _ (λ y x a b c d. average-le l O y b x (omega arith)) (λ y x a b c d. average-le l O y b x (omega arith)))
       (le-trans (within (16380 * 16380) (2 ^ 28) (lit≤ tt)) (lit≤ tt))

@@ -1,23 +1,23 @@
 -- The entries of the normal equations: each stands in the sums of a plane's pairs of rows, and two neighbours may change places. Assumes nothing.
-use mathlib.Core.Path.{_≡_, refl, sym, ap, _∙_}
+use mathlib.Core.Path.{_≡_, sym, ap, _∙_}
 use mathlib.Core.List.{List}
 use mathlib.Core.Logic.{⊎-elim}
 use Prim.Native.Nat.{ℕ, _+_, _-_, _*_, _/_, _%_, _≤_, _<_, min, max}
-use native.Mathlib.Nat.{le-trans, le-of-eq, le-of-lt, lt-of-lt-of-le, mul-comm, mul-add, mul-one, mul-assoc, mod-lt, min-eq-left, min-eq-right, max-eq-left, max-eq-right}
+use native.Mathlib.Nat.{le-of-lt, lt-of-lt-of-le, mod-lt, min-eq-left, min-eq-right, max-eq-left, max-eq-right}
 use native.Mathlib.Omega.{arith}
 use lib.Arith.{digits-div, digits-mod}
-use lib.IntN.{ℤ, _*ℤ_, *ℤ-comm}
-use Rattle.laws.specs.Sums.{sumTo, span}
+use lib.IntN.{ℤ, _*ℤ_}
 use Rattle.laws.proofs.Sums.{sum-ext}
 use Rattle.noise.specs.Grids.{Rows}
 use Rattle.noise.specs.declared.rows.Grid.{Grid}
-use Rattle.normal.specs.Normal.{Picture, side, neighbours, factors, neighbour, windowSum, Window, entry, square}
+use Rattle.normal.specs.Normal.{Picture, side, factors, neighbour, windowSum, entry, square}
+use Rattle.normal.specs.Calls.{Window}
 use Rattle.normal.specs.Starts.{startSum}
 use Rattle.normal.specs.Blocks.{pairAt}
 use Rattle.normal.specs.Rows.{Plot, PlaneSums, pairSum}
 use Rattle.normal.proofs.Squares.{square-ext}
 use Rattle.normal.proofs.Pairs.{rows-order, row-in, place-in, side-some}
-use Rattle.normal.proofs.Cases.{lt-or-ge}
+use Rattle.normal.proofs.Order.{lt-or-ge}
 use Rattle.normal.proofs.Sizes.{factors-le}
 use Rattle.normal.proofs.Bounds.{window-swap}
 

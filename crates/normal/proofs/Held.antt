@@ -1,12 +1,12 @@
 -- The sums of pairs of rows while the rows pass: the state before the first row, after a row and after the last. Assumes nothing.
-use mathlib.Core.Path.{_≡_, refl, sym, ap, _∙_}
+use mathlib.Core.Path.{_≡_, sym, ap, _∙_}
 use mathlib.Core.List.{List}
 use mathlib.Core.Logic.{⊎-elim}
 use Prim.Native.Nat.{ℕ, _+_, _-_, _*_, _/_, _%_, _^_, _≤_, _<_, min}
-use native.Mathlib.Nat.{le-trans, le-of-eq, lt-of-le-of-lt, lt-of-lt-of-le, add-le-add, mul-le-mul, mul-le-mul-right, min-zero, min-eq-left, min-eq-right, min-le-right}
+use native.Mathlib.Nat.{le-trans, le-of-eq, lt-of-le-of-lt, add-le-add, mul-le-mul, mul-le-mul-right, min-zero, min-eq-left, min-eq-right, min-le-right}
 use native.Mathlib.Omega.{arith}
 use lib.Arith.{digits-lt, digits-div, digits-mod}
-use lib.Dec.{lit<, lit≤}
+use lib.Dec.{lit<}
 use lib.IntN.{ℤ, pos, natAbs, _+ℤ_, +ℤ-idr}
 use lib.ListN.{length}
 use Rattle.laws.specs.Sums.{sumTo}
@@ -18,9 +18,9 @@ use Rattle.normal.specs.Normal.{Picture}
 use Rattle.normal.specs.Starts.{startSum}
 use Rattle.normal.specs.Blocks.{blockAt, ifPassed, Room, Added}
 use Rattle.normal.specs.Rows.{Plot, RowTables, PlaneSums, Zeros, pairSum}
-use Rattle.normal.proofs.Cases.{lt-or-ge}
+use Rattle.normal.proofs.Order.{lt-or-ge}
 use Rattle.normal.proofs.Squares.{quotient, remainder}
-use Rattle.normal.proofs.Passing.{passed-before, passed-after, passed-now, block-end}
+use Rattle.normal.proofs.Passing.{passed-before, passed-after, passed-now}
 use Rattle.normal.proofs.RowLines.{rows-bound}
 
 -- before row r: a pair of rows whose lower row starts at `low` has passed r - low times, and at most `rows` times

@@ -1,4 +1,4 @@
-pub mod Cases
+pub mod Order
 pub mod Stored
 pub mod StartSums
 pub mod Squares
@@ -15,3 +15,4 @@ pub mod Bounds
 pub mod Entries
 pub mod TapRows
 pub mod TapSums
+pub mod Callers

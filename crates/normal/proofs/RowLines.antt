@@ -1,12 +1,11 @@
 -- Lines that hold the noise of two rows: the sums of their products by start are those of the rows. Assumes nothing.
-use mathlib.Core.Path.{_≡_, sym, ap, _∙_}
+use mathlib.Core.Path.{_≡_, ap}
 use mathlib.Core.List.{List}
 use Prim.Native.Nat.{ℕ, _+_, _*_, _^_, _≤_, _<_}
 use native.Mathlib.Nat.{le-trans, le-of-eq, lt-of-le-of-lt, lt-of-lt-of-le, mul-le-mul, mul-le-mul-right}
 use native.Mathlib.Omega.{arith}
 use lib.Dec.{lit<, lit≤}
 use lib.IntN.{ℤ, natAbs}
-use lib.ListN.{length}
 use Rattle.laws.specs.Table.{tabulate}
 use Rattle.noise.specs.Lines.{at}
 use Rattle.noise.specs.Grids.{noiseAt}
@@ -53,13 +52,13 @@ module _ {source denoised : List ℕ} {g : Grid} {w h n side : ℕ} (P : Plot so
 
     module _ {up lo : List ℤ} (eu : up ≡ tabulate w (f u)) (el : lo ≡ tabulate w (f v)) where
       pub rows-strip : Strip up lo n side
-      rows-strip =
+      rows-strip a b l m =
           record {
             up-long = omega (arith, P .wide, size w (f u) eu);
             lo-long = omega (arith, P .wide, size w (f v) el);
             few = few;
             up-small = line-small u hu eu;
-            lo-small = λ i l. lt-of-lt-of-le (line-small v hv el i l) (lit≤ tt);
+            lo-small = λ i k. lt-of-lt-of-le (line-small v hv el i k) (lit≤ tt);
           }
 
       pub rows-table : square side (startSum (at up) (at lo) n) ≡ square side (startSum (f u) (f v) n)

@@ -9,12 +9,9 @@ use lib.Arith.{digits-lt, digits-div, digits-mod}
 use lib.IntN.{ℤ}
 use lib.ListN.{length}
 use Rattle.noise.specs.Lines.{at}
-use Rattle.normal.specs.Starts.{startSum, Strip, Pair, Next}
+use Rattle.normal.specs.Starts.{startSum, Next}
 use Rattle.normal.proofs.StartSums.{start-swap}
 use Rattle.normal.proofs.Squares.{place-back, first-row}
-
-pub strip-pair : {up lo : List ℤ} {n side : ℕ} → Strip up lo n side → (a b : ℕ) → a < side → b < side → Pair up lo n a b
-strip-pair P a b h k = record { up-long = omega (arith, P .up-long); lo-long = omega (arith, P .lo-long); few = P .few; up-small = P .up-small; lo-small = P .lo-small }
 
 module _ {up lo : List ℤ} {twin : Bool} {n side a b : ℕ} {table : List ℤ} (N : Next up lo twin n side a b table) (a-on : 0 < a) where
   abbrev sums : ℕ → ℕ → ℤ

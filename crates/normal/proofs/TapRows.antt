@@ -3,7 +3,7 @@ use mathlib.Core.Path.{_≡_, refl, sym, ap, _∙_, subst}
 use mathlib.Core.List.{List, _++_}
 use mathlib.Core.Logic.{⊎-elim}
 use Prim.Native.Nat.{ℕ, _+_, _-_, _*_, _/_, _%_, _^_, _≤_, _<_, min}
-use native.Mathlib.Nat.{le-trans, le-of-eq, lt-of-lt-of-le, mul-comm, mul-add, mul-assoc, mul-one, mul-le-mul-right, zero-mul, min-eq-left, min-eq-right, min-le-left, min-le-right}
+use native.Mathlib.Nat.{le-trans, le-of-eq, lt-of-lt-of-le, mul-le-mul-right, zero-mul, min-eq-left, min-eq-right, min-le-left, min-le-right}
 use native.Mathlib.Omega.{arith}
 use lib.Arith.{digits-div, digits-mod}
 use lib.IntN.{ℤ, natAbs, _+ℤ_}
@@ -17,7 +17,7 @@ use Rattle.noise.proofs.LineSums.{entry, size}
 use Rattle.normal.specs.Normal.{Picture, side, factors}
 use Rattle.normal.specs.Starts.{startSum, Pair}
 use Rattle.normal.specs.Taps.{TapRoom, TapRow}
-use Rattle.normal.proofs.Cases.{lt-or-ge}
+use Rattle.normal.proofs.Order.{lt-or-ge}
 use Rattle.normal.proofs.Stored.{part, part-length, part-at}
 use Rattle.normal.proofs.Squares.{row-end}
 use Rattle.normal.proofs.StartSums.{start-ext}

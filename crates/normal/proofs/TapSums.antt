@@ -6,7 +6,6 @@ use native.Mathlib.Nat.{le-trans, le-of-eq, lt-of-le-of-lt, lt-of-lt-of-le, lt-t
 use native.Mathlib.Omega.{arith}
 use lib.Dec.{lit<, lit≤}
 use lib.IntN.{ℤ, pos, natAbs, _+ℤ_, _*ℤ_}
-use lib.ListN.{length}
 use mir.Syntax.{w64}
 use mir.Val.{ofZ, toZ}
 use Rattle.laws.specs.Sums.{sumTo}
@@ -21,10 +20,11 @@ use Rattle.noise.specs.Average.{Luma, quarters}
 use Rattle.noise.specs.declared.rows.Grid.{Grid}
 use Rattle.noise.proofs.Lines.{noise-le}
 use Rattle.noise.proofs.LineSums.{entry, size, rows-turn}
-use Rattle.normal.specs.Normal.{Picture, side, factors, neighbour, windowSum, Window, tapEntry, tapSquare}
+use Rattle.normal.specs.Normal.{Picture, side, factors, windowSum, tapEntry, tapSquare}
+use Rattle.normal.specs.Calls.{Window, LumaOver, Planes, TapSums}
 use Rattle.normal.specs.Starts.{startSum}
 use Rattle.normal.specs.Rows.{Zeros}
-use Rattle.normal.specs.Taps.{Over, TapRow, Planes, TapSums}
+use Rattle.normal.specs.Taps.{TapRow}
 use Rattle.normal.proofs.StartSums.{start-ext, start-bound}
 use Rattle.normal.proofs.Adding.{table-is}
 use Rattle.normal.proofs.Entries.{back}
@@ -159,7 +159,7 @@ module _ {l : Luma} {cb denoised-cb cr denoised-cr : List ℕ} {g : Grid} {cw ch
     pub row-below : y + lag + 1 ≤ ch
     row-below = omega arith
 
-    pub row-over : Over l cw (y + lag + 1)
+    pub row-over : LumaOver l cw (y + lag + 1)
     row-over =
         record { plane = P .over .plane; narrow = P .over .narrow; columns-are = P .over .columns-are; rows-in = λ r k. P .over .rows-in r (lt-of-lt-of-le k row-below) }
 

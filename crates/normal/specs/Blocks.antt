@@ -3,14 +3,11 @@
 use mathlib.Core.Path.{_≡_}
 use mathlib.Core.Bool.{cond}
 use mathlib.Core.List.{List}
-use Prim.Native.Nat.{ℕ, _+_, _-_, _*_, _/_, _%_, _^_, _≤_, _<_, min}
+use Prim.Native.Nat.{ℕ, _+_, _-_, _*_, _/_, _%_, _^_, _≤_, _<_}
 use lib.Dec.{leb, ltb}
 use lib.IntN.{ℤ, pos, natAbs, _+ℤ_}
 use lib.ListN.{length}
-use Rattle.laws.specs.Sums.{sumTo}
 use Rattle.noise.specs.Lines.{at}
-use Rattle.normal.specs.Normal.{Picture}
-use Rattle.normal.specs.Starts.{startSum}
 
 -- number c of block z
 abbrev pub blockAt : List ℤ → ℕ → ℕ → ℕ → ℤ

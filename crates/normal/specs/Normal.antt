@@ -1,6 +1,6 @@
 -- "In a fit: of the sample's noise, its neighbours' noises and, for chroma, the luma average, any two multiplied or any one squared." The exact sums of these products over the places where a fit has all its factors.
 use mathlib.Core.List.{List}
-use Prim.Native.Nat.{ℕ, _+_, _-_, _*_, _/_, _%_, _^_, _≤_}
+use Prim.Native.Nat.{ℕ, _+_, _-_, _*_, _/_, _%_}
 use lib.IntN.{ℤ, _*ℤ_}
 use Rattle.laws.specs.Sums.{span}
 use Rattle.laws.specs.Table.{tabulate}
@@ -9,14 +9,17 @@ use Rattle.laws.specs.Table.{tabulate}
 abbrev pub Picture : Type 0
 Picture = ℕ → ℕ → ℤ
 
--- "rows −lag to 0, columns −lag to lag, ending before the sample itself; 2×lag×(lag+1) of them"
+-- "rows −lag to 0, columns −lag to lag, ending before the sample itself; 2×lag×(lag+1) of them": the places of a row, the neighbours, and the neighbours with the sample
 abbrev pub side : ℕ → ℕ
 side lag = 2 * lag + 1
 
 abbrev pub neighbours : ℕ → ℕ
 neighbours lag = 2 * lag * (lag + 1)
 
--- neighbour i of each place, counted along the rows from the first, which is lag rows above and lag columns to the left
+abbrev pub factors : ℕ → ℕ
+factors lag = neighbours lag + 1
+
+-- neighbour i of each place, counted along the rows from the first, which is lag rows above and lag columns to the left. The sample itself is neighbour 2×lag×(lag+1)
 abbrev pub neighbour : Picture → ℕ → ℕ → Picture
 neighbour f lag i y x = f (y - lag + i / side lag) (x - lag + i % side lag)
 
@@ -24,15 +27,7 @@ neighbour f lag i y x = f (y - lag + i / side lag) (x - lag + i % side lag)
 unfoldable pub windowSum : ℕ → ℕ → ℕ → Picture → Picture → ℤ
 windowSum w h lag f g = span (λ y. span (λ x. f y x *ℤ g y x) lag (w - 2 * lag)) lag (h - lag)
 
--- the sizes and lags of fits
-pub record Window (w h lag : ℕ) : Type 0 where
-  pub few : lag ≤ 3
-  pub columns : 2 * lag ≤ w
-  pub rows : lag ≤ h
-  pub narrow : w ≤ 2 ^ 12
-  pub low : h ≤ 2 ^ 12
-
--- neighbours i and j; the sample itself is neighbour 2×lag×(lag+1)
+-- neighbours i and j
 abbrev pub entry : Picture → ℕ → ℕ → ℕ → ℕ → ℕ → ℤ
 entry f w h lag i j = windowSum w h lag (neighbour f lag i) (neighbour f lag j)
 
@@ -42,10 +37,6 @@ tapEntry f q w h lag i = windowSum w h lag (neighbour f lag i) q
 
 abbrev pub tapSquare : Picture → ℕ → ℕ → ℕ → ℤ
 tapSquare q w h lag = windowSum w h lag q q
-
--- the neighbours and the sample itself
-abbrev pub factors : ℕ → ℕ
-factors lag = neighbours lag + 1
 
 -- f i j for i and j below n, row after row
 abbrev pub square : ℕ → (ℕ → ℕ → ℤ) → List ℤ

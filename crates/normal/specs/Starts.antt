@@ -25,13 +25,9 @@ pub record Pair (up lo : List ℤ) (n a b : ℕ) : Type 0 where
   pub up-small : Small (2 ^ 12) up
   pub lo-small : Small (2 ^ 14) lo
 
--- the same from each of `side` places on
-pub record Strip (up lo : List ℤ) (n side : ℕ) : Type 0 where
-  pub up-long : n + side ≤ length up + 1
-  pub lo-long : n + side ≤ length lo + 1
-  pub few : n ≤ 2 ^ 12
-  pub up-small : Small (2 ^ 12) up
-  pub lo-small : Small (2 ^ 14) lo
+-- the same from every two of `side` places on
+abbrev pub Strip : List ℤ → List ℤ → ℕ → ℕ → Type 0
+Strip up lo n side = (a b : ℕ) → a < side → b < side → Pair up lo n a b
 
 -- a table of these sums, filled in row order up to starts a and b; `twin` says that the lines are the same
 pub record Next (up lo : List ℤ) (twin : Bool) (n side a b : ℕ) (table : List ℤ) : Type 0 where

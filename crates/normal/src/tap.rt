@@ -11,7 +11,8 @@ ghost use Rattle.noise.specs.Quarters.{luma};
 ghost use Rattle.normal.specs.Normal.{side, factors};
 ghost use Rattle.normal.specs.Starts.{startSum};
 ghost use Rattle.normal.specs.Rows.{Zeros};
-ghost use Rattle.normal.specs.Taps.{TapRoom, TapRow, Over, Planes, TapSums};
+ghost use Rattle.normal.specs.Calls.{LumaOver, Planes, TapSums};
+ghost use Rattle.normal.specs.Taps.{TapRoom, TapRow};
 use crate::rows::fewer;
 use crate::rows::grid_line;
 use crate::starts::square_sum;
@@ -76,7 +77,7 @@ fn average_squares(
     bottom: &mut [i16],
     averages: &mut [i16],
 ) -> i64
-    requires { ⌜ Over (luma (now src) (now den) w h format) (length (now averages)) (r + 1) × (length (now top) ≡ w) × (length (now bottom) ≡ w) × (lag + n ≤ length (now averages)) × (n ≤ 2 ^ 12) ⌝ }
+    requires { ⌜ LumaOver (luma (now src) (now den) w h format) (length (now averages)) (r + 1) × (length (now top) ≡ w) × (length (now bottom) ≡ w) × (lag + n ≤ length (now averages)) × (n ≤ 2 ^ 12) ⌝ }
     ensures { λ s. ⌜ (s ≡ startSum (quarters (luma (now (src .entry)) (now (den .entry)) w h format) r) (quarters (luma (now (src .entry)) (now (den .entry)) w h format) r) n lag lag) × (now (averages .exit) ≡ tabulate (length (now (averages .entry))) (quarters (luma (now (src .entry)) (now (den .entry)) w h format) r)) ⌝ }
 {
     average_line(src, den, w, h, format, r, top, bottom, averages);

@@ -1,5 +1,5 @@
 -- `normal::blocks::add_row` meets its contract: the blocks passed have their tables added. Assumes nothing.
-use Prim.Native.Nat.{_+_, _-_, _*_, _/_, _%_, _≤_, _<_}
+use Prim.Native.Nat.{_+_, _-_, _*_, _/_, _≤_}
 use native.Mathlib.Omega.{arith}
 use lib.ListN.{length}
 use Rattle.normal.proofs.Passing.{gain, passing-starts, passing-by, passing-addable, passing-added, passing-ends, passed-before, passed-after, blocks-le, sums-end, tables-end}

@@ -1,7 +1,6 @@
 -- `normal::plane::blank_sums` meets its contract: every place of a repeated zero is zero. Assumes nothing.
 use mathlib.Core.Path.{refl}
 use Rattle.normal.proofs.Sizes.{zeros}
-use borrow.Author.Needs.{needs}
 use Rattle.normal.proofs.plane.blank_sums.Statement.{statement}
 use Rattle.normal.proofs.plane.blank_sums.Tie as tie
 

@@ -1,5 +1,5 @@
 -- `normal::plane::entry_at` meets its contract: the neighbours are put in order. Assumes nothing.
-use mathlib.Core.Path.{_≡_, sym, _∙_}
+use mathlib.Core.Path.{sym, _∙_}
 use native.Mathlib.Nat.{min-eq-left, min-eq-right, max-eq-left, max-eq-right, le-of-lt}
 use Rattle.normal.specs.Blocks.{pairAt}
 use Rattle.normal.proofs.StartSums.{kept}

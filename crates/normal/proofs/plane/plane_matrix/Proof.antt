@@ -1,5 +1,5 @@
 -- `normal::plane::plane_matrix` meets its contract: each entry stands in the sums of pairs of rows. Assumes nothing.
-use mathlib.Core.Path.{_≡_, sym, _∙_, subst}
+use mathlib.Core.Path.{sym, _∙_, subst}
 use Prim.Native.Nat.{ℕ, _-_, _*_}
 use native.Mathlib.Omega.{arith}
 use Rattle.noise.specs.Grids.{noiseAt}

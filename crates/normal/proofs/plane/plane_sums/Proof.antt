@@ -1,6 +1,5 @@
 -- `normal::plane::plane_sums` meets its contract: at lags up to 3 the lines, tables and sums have room. Assumes nothing.
-use mathlib.Core.Path.{_≡_, sym, _∙_}
-use native.Mathlib.Omega.{arith}
+use mathlib.Core.Path.{sym}
 use native.Mathlib.Nat.{le-trans, le-of-eq}
 use lib.Seq.{length-take-le}
 use Rattle.normal.proofs.Sizes.{row-le, all-le, zeros-front}

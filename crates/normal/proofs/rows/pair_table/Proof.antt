@@ -1,6 +1,6 @@
 -- `normal::rows::pair_table` meets its contract: the lines hold the two rows. Assumes nothing.
 use mathlib.Core.Bool.{false≢true}
-use mathlib.Core.Path.{_≡_, refl, sym, ap, _∙_}
+use mathlib.Core.Path.{_≡_, refl, ap, _∙_}
 use Prim.Native.Nat.{ℕ, _-_}
 use native.Mathlib.Omega.{arith}
 use Rattle.noise.specs.Grids.{noiseAt}

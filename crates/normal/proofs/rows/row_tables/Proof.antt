@@ -9,7 +9,7 @@ use Rattle.noise.specs.Grids.{noiseAt}
 use Rattle.normal.specs.Rows.{Plot}
 use Rattle.normal.proofs.Stored.{part-length}
 use Rattle.normal.proofs.RowLines.{side-few}
-use Rattle.normal.proofs.Filling.{Filling, filling-starts, filling-start, filling-row, filling-end, filling-turn, filling-ends}
+use Rattle.normal.proofs.Filling.{Filling, filling-starts, filling-row, filling-end, filling-turn, filling-ends}
 use borrow.Author.Needs.{needs}
 use Rattle.normal.proofs.rows.row_tables.Statement.{statement}
 use Rattle.normal.proofs.rows.row_tables.Tie as tie

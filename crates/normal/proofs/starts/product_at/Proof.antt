@@ -1,5 +1,4 @@
 -- `normal::starts::product_at` meets its contract: two i16 and their product fit an i64. Assumes nothing.
-use mathlib.Core.Path.{_≡_}
 use lib.IntN.{ℤ, _*ℤ_}
 use mir.Syntax.{w64}
 use Rattle.laws.proofs.Is.{Is, again, fits}

@@ -1,11 +1,10 @@
 -- `normal::starts::slid_sum` meets its contract: one product is taken off and one put on. Assumes nothing.
-use mathlib.Core.Path.{_≡_, _∙_}
+use mathlib.Core.Path.{_≡_}
 use Prim.Native.Nat.{_+_}
-use native.Mathlib.Omega.{arith}
-use lib.IntN.{ℤ, _+ℤ_, _-ℤ_, _*ℤ_}
+use lib.IntN.{ℤ, _*ℤ_}
 use mir.Syntax.{w64}
 use mir.Val.{toZ, ofZ}
-use Rattle.laws.proofs.Is.{Is, again, fits}
+use Rattle.laws.proofs.Is.{again, fits}
 use Rattle.noise.specs.Lines.{at}
 use Rattle.normal.specs.Starts.{startSum}
 use Rattle.normal.proofs.StartSums.{kept, less-is, slid-is}

@@ -1,5 +1,4 @@
 -- `normal::table::line_table` meets its contract: the table is filled in row order. Assumes nothing.
-use mathlib.Core.Path.{_≡_}
 use Prim.Native.Nat.{_+_, _-_, _*_, _<_}
 use native.Mathlib.Omega.{arith}
 use lib.IntN.{pos}

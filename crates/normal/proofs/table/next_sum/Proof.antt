@@ -6,13 +6,13 @@ use lib.ListN.{length}
 use Rattle.noise.specs.Lines.{at}
 use Rattle.normal.specs.Starts.{startSum}
 use Rattle.normal.proofs.StartSums.{kept}
-use Rattle.normal.proofs.Tables.{strip-pair, back-in, back-is, mirror-in, mirror-is}
+use Rattle.normal.proofs.Tables.{back-in, back-is, mirror-in, mirror-is}
 use borrow.Author.Needs.{needs}
 use Rattle.normal.proofs.table.next_sum.Statement.{statement}
 use Rattle.normal.proofs.table.next_sum.Tie as tie
 
 start-sum-requires : tie.Need-start-sum-requires
-start-sum-requires c κs = search needs
+start-sum-requires c κs = let S = c .before in S .pre .strip (S .args .a) (S .args .b) (S .pre .up-start) (S .pre .lo-start)
 
 returns : tie.Need-returns
 returns c = search needs
@@ -35,7 +35,9 @@ returns-2 c =
     (mirror-is (S .pre) (omega arith) (c .before .before .if2 .taken) (S .pre .same (c .before .if3 .taken)))
 
 start-sum-requires-2 : tie.Need-start-sum-requires-2
-start-sum-requires-2 c κs = search needs
+start-sum-requires-2 c κs =
+    let S = c .before .before .before in
+    S .pre .strip (S .args .a) (S .args .b) (S .pre .up-start) (S .pre .lo-start)
 
 returns-3 : tie.Need-returns-3
 returns-3 c = search needs
@@ -74,7 +76,7 @@ slid-sum-requires c κs =
     let S = c .before .before .before in
     let a = S .args .a in
     let b = S .args .b in (
-      strip-pair (S .pre .strip) (a - 1 + 1) (b - 1 + 1) (omega arith) (omega arith),
+      S .pre .strip (a - 1 + 1) (b - 1 + 1) (omega arith) (omega arith),
       kept (record { sfits = c .before2 .given }) (back-is (S .pre) (omega arith) (omega arith)),
     )
 

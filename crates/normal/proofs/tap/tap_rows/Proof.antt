@@ -1,6 +1,6 @@
 -- `normal::tap::tap_rows` meets its contract: the sums hold what the rows passed have added. Assumes nothing.
 use mathlib.Core.Path.{_≡_, refl, sym, ap, _∙_, subst}
-use Prim.Native.Nat.{ℕ, _+_, _-_, _*_, _^_, _≤_, _<_, zero-le}
+use Prim.Native.Nat.{ℕ, _+_, _-_, _*_, _^_, _≤_, zero-le}
 use native.Mathlib.Nat.{le-trans, le-of-eq, le-antisymm}
 use native.Mathlib.Numerals.{add-one-le}
 use native.Mathlib.Omega.{arith}
@@ -16,10 +16,8 @@ use Rattle.noise.specs.Grids.{noiseAt}
 use Rattle.noise.specs.Average.{quarters}
 use Rattle.noise.specs.Quarters.{luma}
 use Rattle.noise.proofs.LineSums.{size}
-use Rattle.normal.specs.Normal.{factors}
-use Rattle.normal.specs.Taps.{Over}
+use Rattle.normal.specs.Calls.{LumaOver}
 use Rattle.normal.proofs.TapSums.{TapsHeld, taps-held, taps-done, row-below, row-over, component-row, squares-turn, rowSquares, taps-more}
-use borrow.Author.Needs.{needs}
 use Rattle.normal.proofs.tap.tap_rows.Statement.{statement}
 use Rattle.normal.proofs.tap.tap_rows.Tie as tie
 
@@ -65,7 +63,7 @@ average-squares-requires c κs =
     let S = c .before .before .before .before .before .before .before .before .before .before .before in
     let A = S .args in
     let H = c .before .before .before .before .loop in (
-      subst (λ (m : ℕ). Over (luma (A .src .now) (A .den .now) (A .w) (A .h) (A .format)) m (H .y + A .lag + 1)) (sym (H .inv .4)) (row-over (S .pre .0) (H .y) (c .before .before .before .loop-test .taken)),
+      subst (λ (m : ℕ). LumaOver (luma (A .src .now) (A .den .now) (A .w) (A .h) (A .format)) m (H .y + A .lag + 1)) (sym (H .inv .4)) (row-over (S .pre .0) (H .y) (c .before .before .before .loop-test .taken)),
       H .inv .2,
       H .inv .3,
       le-trans (inner (A .lag) (A .cw) (S .pre .0 .window .columns)) (le-of-eq (sym (H .inv .4))),

@@ -1,5 +1,5 @@
 -- `normal::tap::tap_sums` meets its contract: the lines have room for a row. Assumes nothing.
-use mathlib.Core.Path.{_≡_, sym, subst}
+use mathlib.Core.Path.{sym, subst}
 use Prim.Native.Nat.{ℕ}
 use lib.Seq.{length-take-le}
 use Rattle.normal.specs.Rows.{Zeros}
