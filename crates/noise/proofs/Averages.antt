@@ -2,8 +2,8 @@
 use mathlib.Core.Path.{_≡_, refl, sym, ap, _∙_}
 use mathlib.Core.Bool.{Bool, true, false, cond}
 use mathlib.Core.List.{List}
-use Prim.Native.Nat.{ℕ, _+_, _-_, _*_, _/_, _^_, _≤_, _<_, min}
-use native.Mathlib.Nat.{le-refl, le-trans, le-of-eq, lt-of-le-of-lt, lt-of-lt-of-le, add-zero, mul-one, min-eq-left, min-le-right}
+use Prim.Native.Nat.{ℕ, _+_, _-_, _*_, _^_, _≤_, _<_, min}
+use native.Mathlib.Nat.{le-refl, le-trans, le-of-eq, lt-of-le-of-lt, lt-of-lt-of-le, min-le-right}
 use native.Mathlib.Omega.{arith}
 use lib.Dec.{leb, lit≤}
 use lib.IntN.{ℤ, pos, natAbs, _+ℤ_, _*ℤ_, +ℤ-idl}
@@ -16,7 +16,7 @@ use Rattle.laws.proofs.Sums.{sum-ext, sum-add, sum-bound}
 use Rattle.noise.specs.Noise.{noise, place}
 use Rattle.noise.specs.Average.{Luma, subX, subY, lumaPlace, quarters}
 use Rattle.noise.specs.Lines.{at, Plane}
-use Rattle.noise.specs.Quarters.{quartered, columns, Pairs, luma}
+use Rattle.noise.specs.Quarters.{quartered, columns, Pairs}
 use Rattle.noise.proofs.Grids.{plane-noise-le}
 use Rattle.noise.proofs.LineSums.{entry, size}
 
@@ -72,50 +72,64 @@ module _ (N : ℕ → ℕ → ℤ) where
     four-le false false = le-trans (total-le false false) (lit≤ tt)
 
 -- ---- of a frame
-module _ {w h : ℕ} {source denoised : List ℕ} (P : Plane w h source denoised) (format r : ℕ) (in-rows : r * 2 ^ subY format < h) where
-  abbrev L : Luma
-  L = luma source denoised w h format
+-- the lines of the luma rows of chroma row r
+pub record LumaLines (l : Luma) (r : ℕ) (top bottom : List ℤ) : Type 0 where
+  pub upper : ℕ
+  pub lower : ℕ
+  pub upper-is : upper ≡ min (r * 2 ^ subY (l .format) + 0) (l .height - 1)
+  pub lower-is : lower ≡ min (r * 2 ^ subY (l .format) + subY (l .format)) (l .height - 1)
+  pub top-is : top ≡ tabulate (l .width) (λ x. noise (l .source) (l .denoised) (place (l .width) upper x))
+  pub bottom-is : bottom ≡ tabulate (l .width) (λ x. noise (l .source) (l .denoised) (place (l .width) lower x))
 
-  in-height : (m : ℕ) → min m (h - 1) < h
-  in-height m = lt-of-le-of-lt (min-le-right m (h - 1)) (omega arith)
+module _ (l : Luma) (P : Plane (l .width) (l .height) (l .source) (l .denoised)) (r : ℕ) (in-rows : r * 2 ^ subY (l .format) < l .height) where
+  in-height : (m : ℕ) → min m (l .height - 1) < l .height
+  in-height m = lt-of-le-of-lt (min-le-right m (l .height - 1)) (omega arith)
 
-  in-width : (c m : ℕ) → c < columns (subX format) w → min m (w - 1) < w
-  in-width c m l = let k = some (leb format 2) c w l in lt-of-le-of-lt (min-le-right m (w - 1)) (omega arith)
+  in-width : (c m : ℕ) → c < columns (subX (l .format)) (l .width) → min m (l .width - 1) < l .width
+  in-width c m k = let one = some (leb (l .format) 2) c (l .width) k in lt-of-le-of-lt (min-le-right m (l .width - 1)) (omega arith)
 
-  pub quarters-le : (c : ℕ) → c < columns (subX format) w → natAbs (quarters L r c) ≤ 16380
+  pub quarters-le : (c : ℕ) → c < columns (subX (l .format)) (l .width) → natAbs (quarters l r c) ≤ 16380
   unfolding quarters
-  quarters-le c l =
-      four-le (λ i j. noise source denoised (lumaPlace L r c i j)) (λ i j. plane-noise-le P _ _ (in-height _) (in-width c _ l)) (leb format 2) (leb format 1)
+  quarters-le c k =
+      four-le (λ i j. noise (l .source) (l .denoised) (lumaPlace l r c i j)) (λ i j. plane-noise-le P _ _ (in-height _) (in-width c _ k)) (leb (l .format) 2) (leb (l .format) 1)
 
-  -- ---- from the lines of the two rows
-  module _ {top bottom : List ℤ} (upper lower : ℕ) (u : upper ≡ min (r * 2 ^ subY format + 0) (h - 1)) (l : lower ≡ min (r * 2 ^ subY format + subY format) (h - 1))
-      (e : top ≡ tabulate w (λ x. noise source denoised (place w upper x))) (d : bottom ≡ tabulate w (λ x. noise source denoised (place w lower x))) where
-    cell : (line : List ℤ) (y i c j : ℕ) → y ≡ min (r * 2 ^ subY format + i) (h - 1) → line ≡ tabulate w (λ x. noise source denoised (place w y x))
-        → c < columns (subX format) w → at line (min (c * 2 ^ subX format + j) (length top - 1)) ≡ noise source denoised (lumaPlace L r c i j)
+  module _ {top bottom : List ℤ} (T : LumaLines l r top bottom) where
+    wide : length top ≡ l .width
+    wide = size (l .width) _ (T .top-is)
+
+    cell : (line : List ℤ) (y i c j : ℕ) → y ≡ min (r * 2 ^ subY (l .format) + i) (l .height - 1)
+        → line ≡ tabulate (l .width) (λ x. noise (l .source) (l .denoised) (place (l .width) y x))
+        → c < columns (subX (l .format)) (l .width) → at line (min (c * 2 ^ subX (l .format) + j) (length top - 1)) ≡ noise (l .source) (l .denoised) (lumaPlace l r c i j)
     cell line y i c j f g k =
-        ap (λ (n : ℕ). at line (min (c * 2 ^ subX format + j) (n - 1))) (size w _ e)
-        ∙ entry w _ g _ (in-width c _ k)
-        ∙ ap (λ (n : ℕ). noise source denoised (place w n (min (c * 2 ^ subX format + j) (w - 1)))) f
+        ap (λ (n : ℕ). at line (min (c * 2 ^ subX (l .format) + j) (n - 1))) wide
+        ∙ entry (l .width) _ g _ (in-width c _ k)
+        ∙ ap (λ (n : ℕ). noise (l .source) (l .denoised) (place (l .width) n (min (c * 2 ^ subX (l .format) + j) (l .width - 1)))) f
 
-    quarters-are : (c : ℕ) → c < columns (subX format) w → quartered (subX format) top bottom c ≡ quarters L r c
+    quarters-are : (c : ℕ) → c < columns (subX (l .format)) (l .width) → quartered (subX (l .format)) top bottom c ≡ quarters l r c
     unfolding quartered quarters
     quarters-are c k =
-        ap (λ (z : ℤ). z *ℤ pos (2 ^ (1 - subX format)))
-        (sum-ext _ _ (subX format + 1) (λ j m t. cell top upper 0 c j u e k t +ℤ cell bottom lower (subY format) c j l d k t))
-        ∙ pairs-are (λ i j. noise source denoised (lumaPlace L r c i j)) (leb format 2) (leb format 1)
+        ap (λ (z : ℤ). z *ℤ pos (2 ^ (1 - subX (l .format))))
+        (sum-ext _ _ (subX (l .format) + 1) (λ j m t. cell top (T .upper) 0 c j (T .upper-is) (T .top-is) k t +ℤ cell bottom (T .lower) (subY (l .format)) c j (T .lower-is) (T .bottom-is) k t))
+        ∙ pairs-are (λ i j. noise (l .source) (l .denoised) (lumaPlace l r c i j)) (leb (l .format) 2) (leb (l .format) 1)
 
-    line-le : (line : List ℤ) (y m : ℕ) → y ≡ min m (h - 1) → line ≡ tabulate w (λ x. noise source denoised (place w y x)) → (i : ℕ) → i < length top → natAbs (at line i) ≤ 4095
+    line-le : (line : List ℤ) (y m : ℕ) → y ≡ min m (l .height - 1) → line ≡ tabulate (l .width) (λ x. noise (l .source) (l .denoised) (place (l .width) y x))
+        → (i : ℕ) → i < length top → natAbs (at line i) ≤ 4095
     line-le line y m f g i k =
-        let o = lt-of-lt-of-le k (le-of-eq (size w _ e)) in
-        le-trans (le-of-eq (ap natAbs (entry w _ g i o))) (plane-noise-le P y i (lt-of-le-of-lt (le-of-eq f) (in-height m)) o)
+        let o = lt-of-lt-of-le k (le-of-eq wide) in
+        le-trans (le-of-eq (ap natAbs (entry (l .width) _ g i o))) (plane-noise-le P y i (lt-of-le-of-lt (le-of-eq f) (in-height m)) o)
 
     pub are-pairs : Pairs top bottom
-    are-pairs = record { same = size w _ e ∙ sym (size w _ d); top-small = line-le top upper _ u e; bottom-small = line-le bottom lower _ l d }
+    are-pairs =
+        record {
+          same = wide ∙ sym (size (l .width) _ (T .bottom-is));
+          top-small = line-le top (T .upper) _ (T .upper-is) (T .top-is);
+          bottom-small = line-le bottom (T .lower) _ (T .lower-is) (T .bottom-is);
+        }
 
     -- n columns, and sub, as they are worked out
-    module _ {n sub : ℕ} (count : n ≡ columns (subX format) w) (halved : sub ≡ subX format) where
+    module _ {n sub : ℕ} (count : n ≡ columns (subX (l .format)) (l .width)) (halved : sub ≡ subX (l .format)) where
       pub line-count : n ≡ columns sub (length top)
-      line-count = count ∙ (λ k. columns (sym halved k) (sym (size w _ e) k))
+      line-count = count ∙ (λ k. columns (sym halved k) (sym wide k))
 
-      pub line-is : tabulate n (quartered sub top bottom) ≡ tabulate (columns (subX format) w) (quarters L r)
+      pub line-is : tabulate n (quartered sub top bottom) ≡ tabulate (columns (subX (l .format)) (l .width)) (quarters l r)
       line-is = (λ k. tabulate (count k) (quartered (halved k) top bottom)) ∙ tabulate-same _ _ _ quarters-are

@@ -11,7 +11,7 @@ use Rattle.laws.specs.Sums.{sumTo}
 use Rattle.noise.specs.Noise.{noise, place}
 use Rattle.noise.specs.Average.{Luma, subX, subY, quarters}
 use Rattle.noise.specs.Lines.{product, Lines}
-use Rattle.noise.specs.Quarters.{columns, luma}
+use Rattle.noise.specs.Quarters.{columns}
 use Rattle.noise.specs.AverageSums.{squaresAlong, productsAlong, Component}
 use Rattle.noise.proofs.Grids.{plane-noise-le}
 use Rattle.noise.proofs.LineSums.{sum-le, sum-is, are-lines}
@@ -40,7 +40,7 @@ module _ (l : Luma) {source denoised : List ℕ} {cw ch : ℕ} (K : Component l 
     columns-are = K .columns ∙ here .columns-are
 
     average-le : (c : ℕ) → c < cw → natAbs (quarters l r c) ≤ 16380
-    average-le c k = quarters-le (K .of-luma) (l .format) r row-in c (lt-of-lt-of-le k (le-of-eq columns-are))
+    average-le c k = quarters-le l (K .of-luma) r row-in c (lt-of-lt-of-le k (le-of-eq columns-are))
 
     chroma-le : (c : ℕ) → c < cw → natAbs (noise source denoised (place cw r c)) ≤ 4095
     chroma-le c k = plane-noise-le (K .of-chroma) r c in-rows k

@@ -2,12 +2,11 @@
 use mathlib.Core.Path.{_≡_, sym, ap, _∙_}
 use mathlib.Core.List.{List}
 use Prim.Native.Nat.{ℕ, _+_, _*_, _^_, _≤_, _<_}
-use native.Mathlib.Nat.{le-of-eq, le-of-suc-le-suc, le-trans, lt-of-lt-of-le, add-comm, mul-one, mul-comm, suc-mul, mul-le-mul-right}
+use native.Mathlib.Nat.{le-of-eq, le-trans, lt-of-lt-of-le, add-comm, mul-one, mul-comm, suc-mul, mul-le-mul-right}
 use native.Mathlib.Omega.{arith}
 use lib.Arith.{digits-lt}
-use lib.IntN.{ℤ, natAbs, _*ℤ_}
-use lib.ListN.{length, getD}
-use Rattle.laws.proofs.Whole.{abs-diff}
+use lib.IntN.{natAbs, _*ℤ_}
+use lib.ListN.{length}
 use Rattle.laws.specs.Table.{tabulate}
 use Rattle.laws.proofs.Table.{tabulate-same}
 use Rattle.laws.proofs.Sums.{sum-ext}
@@ -15,6 +14,7 @@ use Rattle.noise.specs.Noise.{noise, place}
 use Rattle.noise.specs.Lines.{Places, Plane}
 use Rattle.noise.specs.Grids.{sumOver, noiseAt, Rows}
 use Rattle.noise.specs.declared.rows.Grid.{Grid}
+use Rattle.noise.proofs.Lines.{noise-below}
 
 -- n columns of every row, from column `start` on
 abbrev pub columnsFrom : ℕ → ℕ → Grid
@@ -27,7 +27,7 @@ module _ {w h : ℕ} {source denoised : List ℕ} (P : Plane w h source denoised
   pub plane-noise-le : (r c : ℕ) → r < h → c < w → natAbs (noise source denoised (place w r c)) ≤ 4095
   plane-noise-le r c l m =
       let k = place-in l m in
-      le-of-suc-le-suc (abs-diff (getD source (place w r c) 0) (getD denoised (place w r c) 0) (2 ^ 12) (P .source-low (place w r c) k) (P .denoised-low (place w r c) (lt-of-lt-of-le k (le-of-eq (P .source-size ∙ sym (P .denoised-size))))))
+      noise-below source denoised (P .source-low) (P .denoised-low) (place w r c) k (lt-of-lt-of-le k (le-of-eq (P .source-size ∙ sym (P .denoised-size))))
 
   -- n places of row r from column c on, which is place k
   pub row-places : (k r c n : ℕ) → k ≡ place w r c → r < h → c + n ≤ w → Places (2 ^ 12) source denoised k 1 n

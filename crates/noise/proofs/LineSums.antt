@@ -1,5 +1,5 @@
 -- Two lines given by their entries, which are at most a and b in size: they are lines for any block of products that an i32 holds, the sum of their products is that of the entries, and so large at most. Assumes nothing.
-use mathlib.Core.Path.{_≡_, sym, ap, _∙_, subst}
+use mathlib.Core.Path.{_≡_, sym, ap, _∙_}
 use mathlib.Core.List.{List}
 use Prim.Native.Nat.{ℕ, _+_, _*_, _^_, _≤_, _<_, zero-le, suc-le-suc}
 use native.Mathlib.Nat.{le-trans, le-of-eq, lt-of-le-of-lt, lt-of-lt-of-le, one-mul, mul-le-mul-left, mul-le-mul-right}

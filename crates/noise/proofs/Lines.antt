@@ -3,14 +3,14 @@ use mathlib.Core.List.{List}
 use Prim.Native.Nat.{ℕ, _+_, _*_, _^_, _≤_, _<_}
 use native.Mathlib.Nat.{le-of-eq, le-of-suc-le-suc, lt-of-lt-of-le}
 use lib.Dec.{lit≤}
-use lib.IntN.{ℤ, pos, natAbs, _-ℤ_}
+use lib.IntN.{pos, natAbs, _-ℤ_}
 use lib.ListN.{length, getD}
 use mir.Syntax.{w16}
 use mir.Val.{SFits, toZ}
 use Rattle.laws.proofs.Whole.{abs-diff}
 use Rattle.laws.proofs.Is.{Is, sfits, unsigned, minus}
 use Rattle.noise.specs.Noise.{noise}
-use Rattle.noise.specs.Lines.{Places}
+use Rattle.noise.specs.Lines.{Below, Places}
 
 module _ {source denoised : List ℕ} {start stride n : ℕ} (P : Places (2 ^ 15) source denoised start stride n) {i : ℕ} (l : i < n) where
   pub source-in : start + i * stride < length source
@@ -36,8 +36,14 @@ module _ {source denoised : List ℕ} {start stride n : ℕ} (P : Places (2 ^ 15
   noise-is =
       minus (unsigned w16 _ source-below) (unsigned w16 _ denoised-below) (abs-diff _ _ (2 ^ 15) source-below denoised-below)
 
--- samples below 2^12: also below 2^15, and a noise is at most 4,095 in size
+-- ---- samples below 2^12
+-- a noise is at most 4,095 in size
+pub noise-below : (source denoised : List ℕ) → Below (2 ^ 12) source → Below (2 ^ 12) denoised → (k : ℕ) → k < length source → k < length denoised
+    → natAbs (noise source denoised k) ≤ 4095
+noise-below source denoised a b k l m = le-of-suc-le-suc (abs-diff (getD source k 0) (getD denoised k 0) (2 ^ 12) (a k l) (b k m))
+
 module _ {source denoised : List ℕ} {start stride n : ℕ} (P : Places (2 ^ 12) source denoised start stride n) where
+  -- they are below 2^15 too
   pub looser : Places (2 ^ 15) source denoised start stride n
   looser =
       record {
@@ -49,6 +55,4 @@ module _ {source denoised : List ℕ} {start stride n : ℕ} (P : Places (2 ^ 12
       }
 
   pub noise-le : (i : ℕ) → i < n → natAbs (noise source denoised (start + i * stride)) ≤ 4095
-  noise-le i l =
-      let k = start + i * stride in
-      le-of-suc-le-suc (abs-diff (getD source k 0) (getD denoised k 0) (2 ^ 12) (P .source-low k (source-in looser l)) (P .denoised-low k (denoised-in looser l)))
+  noise-le i l = noise-below source denoised (P .source-low) (P .denoised-low) (start + i * stride) (source-in looser l) (denoised-in looser l)

@@ -1,7 +1,7 @@
 -- Four times a luma average, from two lines: its one or two pairs of numbers at each column, and the machine's sums of them. Assumes nothing.
 use mathlib.Core.Path.{_≡_, refl, sym, ap, _∙_, subst}
 use mathlib.Core.List.{List}
-use Prim.Native.Nat.{ℕ, _+_, _-_, _*_, _^_, _≤_, _<_, min}
+use Prim.Native.Nat.{ℕ, _+_, _-_, _*_, _≤_, _<_, min}
 use native.Mathlib.Nat.{le-trans, le-of-eq, lt-of-le-of-lt, add-le-add, add-zero, min-eq-left, min-eq-right}
 use native.Mathlib.Omega.{arith}
 use lib.Dec.{lit<, lit≤}

@@ -1,7 +1,7 @@
 -- "In a gate: the two frames' noises at one place, or one squared, or, for row correlation, a noise and the one `lag` columns on." Such products, summed over rows and columns of two planes.
 use mathlib.Core.List.{List}
 use Prim.Native.Nat.{ℕ, _+_, _*_, _^_, _<_}
-use lib.IntN.{ℤ, _*ℤ_}
+use lib.IntN.{ℤ}
 use Rattle.laws.specs.Sums.{sumTo}
 use Rattle.noise.specs.Noise.{noise}
 use Rattle.noise.specs.Lines.{Places}

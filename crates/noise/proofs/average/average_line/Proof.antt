@@ -1,11 +1,12 @@
 -- `noise::average::average_line` meets its contract: the lines are the luma rows of the chroma row, and their quarters the averages. Assumes nothing.
-use mathlib.Core.Path.{_≡_, ap, _∙_}
+use mathlib.Core.Path.{ap, _∙_}
 use Prim.Native.Nat.{ℕ, _+_, _-_, _*_, _^_, min}
 use native.Mathlib.Nat.{le-trans, le-of-eq}
 use borrow.Author.Needs.{needs}
 use lib.Dec.{leb}
 use Rattle.noise.specs.Average.{subY}
-use Rattle.noise.proofs.Averages.{bit-le, are-pairs, line-count, line-is}
+use Rattle.noise.specs.Quarters.{luma}
+use Rattle.noise.proofs.Averages.{bit-le, LumaLines, are-pairs, line-count, line-is}
 use Rattle.noise.proofs.average.average_line.Statement.{statement}
 use Rattle.noise.proofs.average.average_line.Tie as tie
 
@@ -27,23 +28,28 @@ noise-row-requires-2 c κs = search needs
 sub-x-requires : tie.Need-sub-x-requires
 sub-x-requires c κs = search needs
 
--- the lower row
-lower-is : (c : tie.After-luma-row2) → let A = c .before .before .before .before .before .args in
-    c .luma-row2 .result ≡ min (A .r * 2 ^ subY (A .format) + subY (A .format)) (A .h - 1)
-lower-is c =
-    let A = c .before .before .before .before .before .args in
-    c .luma-row2 .ensures ∙ ap (λ (n : ℕ). min (A .r * 2 ^ subY (A .format) + n) (A .h - 1)) (c .before .sub-y .ensures)
+-- the lines, as filled
+lines : (c : tie.After-bottom) → let A = c .before .before .before .before .before .before .before .before .before .before .before .args in
+    LumaLines (luma (A .src .now) (A .den .now) (A .w) (A .h) (A .format)) (A .r) (c .before .before .before .before .noise-row .last .1 .1 .1 .1 .1 .0) (c .before .noise-row2 .last .1 .1 .1 .1 .1 .0)
+lines c =
+    let A = c .before .before .before .before .before .before .before .before .before .before .before .args in
+    let low = c .before .before .before .before .before .before .luma-row2 in
+    record {
+      upper = c .before .before .before .before .before .before .before .before .luma-row .result;
+      lower = low .result;
+      upper-is = c .before .before .before .before .before .before .before .before .luma-row .ensures;
+      lower-is = low .ensures ∙ ap (λ (n : ℕ). min (A .r * 2 ^ subY (A .format) + n) (A .h - 1)) (c .before .before .before .before .before .before .before .sub-y .ensures);
+      top-is = c .before .before .before .before .noise-row .ensures;
+      bottom-is = c .before .noise-row2 .ensures;
+    }
 
 quarters-line-requires : tie.Need-quarters-line-requires
 quarters-line-requires c κs =
     let S = c .before .before .before .before .before .before .before .before .before .before .before .before .before .before .before in
-    let F = S .args .format in
-    let up = c .before .before .before .before .before .before .before .before .before .before .before .before .luma-row in
-    let low = c .before .before .before .before .before .before .before .before .before .before .luma-row2 in
-    let pairs = are-pairs (S .pre .0) F (S .args .r) (S .pre .1) (up .result) (low .result) (up .ensures) (lower-is (c .before .before .before .before .before .before .before .before .before .before)) (c .before .before .before .before .before .before .before .before .noise-row .ensures) (c .before .before .before .before .before .noise-row2 .ensures) in (
-      le-trans (le-of-eq (c .before .sub-x .ensures)) (bit-le (leb F 2)),
-      pairs,
-      line-count (S .pre .0) F (S .args .r) (S .pre .1) (up .result) (low .result) (up .ensures) (lower-is (c .before .before .before .before .before .before .before .before .before .before)) (c .before .before .before .before .before .before .before .before .noise-row .ensures) (c .before .before .before .before .before .noise-row2 .ensures) (S .pre .4) (c .before .sub-x .ensures),
+    let T = lines (c .before .before .before .before) in (
+      le-trans (le-of-eq (c .before .sub-x .ensures)) (bit-le (leb (S .args .format) 2)),
+      are-pairs _ (S .pre .0) (S .args .r) (S .pre .1) T,
+      line-count _ (S .pre .0) (S .args .r) (S .pre .1) T (S .pre .4) (c .before .sub-x .ensures),
     )
 
 same-length : tie.Need-same-length
@@ -58,10 +64,7 @@ same-length-3 c = search needs
 returns : tie.Need-returns
 returns c =
     let S = c .before .before .before .before .before .before .before .before .before .before .before .before .before .before .before .before .before in
-    let up = c .before .before .before .before .before .before .before .before .before .before .before .before .before .before .luma-row in
-    let low = c .before .before .before .before .before .before .before .before .before .before .before .before .luma-row2 in
-    c .before .quarters-line .ensures
-    ∙ line-is (S .pre .0) (S .args .format) (S .args .r) (S .pre .1) (up .result) (low .result) (up .ensures) (lower-is (c .before .before .before .before .before .before .before .before .before .before .before .before)) (c .before .before .before .before .before .before .before .before .before .before .noise-row .ensures) (c .before .before .before .before .before .before .before .noise-row2 .ensures) (S .pre .4) (c .before .before .before .sub-x .ensures)
+    c .before .quarters-line .ensures ∙ line-is _ (S .pre .0) (S .args .r) (S .pre .1) (lines (c .before .before .before .before .before .before)) (S .pre .4) (c .before .before .before .sub-x .ensures)
 
 pub average-line-spec : {M : Type 1} → statement M
 average-line-spec =

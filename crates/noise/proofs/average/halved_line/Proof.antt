@@ -1,11 +1,10 @@
 -- `noise::average::halved_line` meets its contract: the columns passed are filled with four times their average; a last luma column is counted twice. Assumes nothing.
-use mathlib.Core.Path.{_≡_, refl, sym, ap, _∙_, subst}
-use Prim.Native.Nat.{ℕ, _+_, _-_, _*_, _/_, _^_, _≤_, _<_, min}
-use native.Mathlib.Nat.{min-eq-left, min-eq-right}
+use mathlib.Core.Path.{_≡_, refl}
+use Prim.Native.Nat.{_-_, _/_, _≤_}
 use native.Mathlib.Omega.{arith}
 use borrow.Author.Needs.{needs}
-use lib.IntN.{ℤ, _+ℤ_}
-use lib.ListN.{length, length-set}
+use lib.IntN.{_+ℤ_}
+use lib.ListN.{length}
 use mir.Syntax.{w16}
 use mir.Val.{ofZ, toZ}
 use Rattle.laws.proofs.Is.{Is, fits, again}

@@ -1,10 +1,8 @@
 -- `noise::average::kept_line` meets its contract: the columns passed are filled with four times their average. Assumes nothing.
-use mathlib.Core.Path.{_≡_, refl, sym, ap, _∙_, subst}
-use Prim.Native.Nat.{ℕ, _+_, _-_, _*_, _^_, _≤_, _<_, min}
-use native.Mathlib.Nat.{min-eq-left, min-eq-right}
+use Prim.Native.Nat.{_-_}
 use native.Mathlib.Omega.{arith}
 use borrow.Author.Needs.{needs}
-use lib.IntN.{ℤ, pos, _*ℤ_}
+use lib.IntN.{pos, _*ℤ_}
 use lib.ListN.{length, length-set}
 use mir.Syntax.{w16}
 use mir.Val.{ofZ, toZ}

@@ -1,5 +1,4 @@
 -- `noise::average::pair` meets its contract: a sum of two numbers of at most 4,095 fits. Assumes nothing.
-use mathlib.Core.Path.{_≡_}
 use Rattle.laws.proofs.Is.{fits, again}
 use Rattle.noise.proofs.Quarters.{pair-is}
 use borrow.Author.Needs.{needs}

@@ -1,11 +1,10 @@
 -- `noise::blocks::block` meets its contract: the accumulator holds the sum of the products passed. Assumes nothing.
-use mathlib.Core.Path.{_≡_, refl, sym, ap, _∙_}
-use Prim.Native.Nat.{ℕ, _+_, _-_, _≤_, _<_}
+use mathlib.Core.Path.{_≡_, refl}
+use Prim.Native.Nat.{_+_, _-_, _≤_}
 use native.Mathlib.Omega.{arith}
 use borrow.Author.Needs.{needs}
-use lib.IntN.{ℤ, _+ℤ_, _*ℤ_}
-use lib.ListN.{length}
-use mir.Syntax.{w16, w32}
+use lib.IntN.{_+ℤ_, _*ℤ_}
+use mir.Syntax.{w32}
 use mir.Val.{ofZ, toZ}
 use Rattle.laws.specs.Sums.{sumTo, span}
 use Rattle.laws.proofs.Is.{Is, again, fits}

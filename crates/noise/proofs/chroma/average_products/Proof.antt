@@ -1,5 +1,5 @@
 -- `noise::chroma::average_products` meets its contract: the lines are long enough for every row. Assumes nothing.
-use mathlib.Core.Path.{_≡_, sym}
+use mathlib.Core.Path.{sym}
 use native.Mathlib.Omega.{arith}
 use borrow.Author.Needs.{needs}
 use lib.Seq.{length-take-le}

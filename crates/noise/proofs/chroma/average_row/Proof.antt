@@ -1,5 +1,5 @@
 -- `noise::chroma::average_row` meets its contract: the lines hold the averages and the chroma noise, and the dot products sum theirs. Assumes nothing.
-use mathlib.Core.Path.{_≡_, _∙_}
+use mathlib.Core.Path.{_∙_}
 use borrow.Author.Needs.{needs}
 use Rattle.laws.proofs.Is.{again, self}
 use Rattle.noise.proofs.ChromaSums.{row-in, columns-are, squares-lines, squares-sum, products-lines, products-sum}

@@ -1,11 +1,11 @@
 -- `noise::chroma::average_rows` meets its contract: the accumulators hold the sums of the rows passed. Assumes nothing.
 use mathlib.Core.Path.{_≡_, refl, _∙_}
-use Prim.Native.Nat.{ℕ, _+_, _-_, _*_, _≤_}
+use Prim.Native.Nat.{_+_, _-_, _*_, _≤_}
 use native.Mathlib.Numerals.{add-one-le}
 use native.Mathlib.Omega.{arith}
 use borrow.Author.Needs.{needs}
 use lib.Dec.{lit≤}
-use lib.IntN.{ℤ, _+ℤ_}
+use lib.IntN.{_+ℤ_}
 use lib.ListN.{length}
 use mir.Syntax.{w64}
 use mir.Val.{ofZ, toZ}

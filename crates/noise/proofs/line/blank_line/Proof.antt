@@ -1,7 +1,7 @@
 -- `noise::line::blank_line` meets its contract: every place of a repeated zero is zero, and so is what lies past its end. Assumes nothing.
 use mathlib.Core.Path.{_≡_, refl}
 use Prim.Native.Nat.{ℕ, zero, suc}
-use lib.IntN.{ℤ, pos}
+use lib.IntN.{pos}
 use lib.ListN.{getD, replicate}
 use Rattle.noise.proofs.line.blank_line.Statement.{statement}
 use Rattle.noise.proofs.line.blank_line.Tie as tie

@@ -1,9 +1,7 @@
 -- `noise::line::noise_line` meets its contract: where the stride is 1 it is 1. Assumes nothing.
 use mathlib.Core.Path.{_≡_, sym, subst}
-use mathlib.Core.List.{List}
 use Prim.Native.Nat.{ℕ, _+_, _*_, _^_}
 use borrow.Author.Needs.{needs}
-use lib.IntN.{ℤ}
 use lib.ListN.{length}
 use Rattle.laws.specs.Table.{tabulate}
 use Rattle.noise.specs.Noise.{noise}

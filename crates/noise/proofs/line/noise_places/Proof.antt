@@ -1,6 +1,5 @@
 -- `noise::line::noise_places` meets its contract: the places passed are filled with their noise. Assumes nothing.
-use mathlib.Core.Path.{_≡_, refl, sym}
-use Prim.Native.Nat.{ℕ, _+_, _*_, _-_, _≤_, _<_}
+use Prim.Native.Nat.{_+_, _*_, _-_, _<_}
 use native.Mathlib.Omega.{arith}
 use borrow.Author.Needs.{needs}
 use lib.ListN.{length, length-set}

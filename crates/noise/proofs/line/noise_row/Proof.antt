@@ -1,10 +1,9 @@
 -- `noise::line::noise_row` meets its contract: a row lies in its plane. Assumes nothing.
-use mathlib.Core.Path.{_≡_, sym, _∙_, subst}
-use Prim.Native.Nat.{ℕ, _+_, _*_, _^_}
-use native.Mathlib.Nat.{le-refl, add-zero}
+use mathlib.Core.Path.{sym, _∙_, subst}
+use Prim.Native.Nat.{ℕ, _*_, _^_}
+use native.Mathlib.Nat.{add-zero}
 use native.Mathlib.Omega.{arith}
 use borrow.Author.Needs.{needs}
-use lib.ListN.{length}
 use Rattle.noise.specs.Lines.{Places}
 use Rattle.noise.proofs.Lines.{looser}
 use Rattle.noise.proofs.Grids.{row-places, row-line}

@@ -1,18 +1,17 @@
 -- `noise::rows::grid_products` meets its contract: the accumulator holds the sum of the rows passed. Assumes nothing.
-use mathlib.Core.Path.{_≡_, refl, sym, ap, _∙_, subst}
+use mathlib.Core.Path.{_≡_, refl, ap, _∙_}
 use mathlib.Core.List.{List}
-use Prim.Native.Nat.{ℕ, _+_, _-_, _*_, _^_, _≤_, _<_}
+use Prim.Native.Nat.{ℕ, _+_, _-_, _*_, _≤_, _<_}
 use native.Mathlib.Nat.{lt-of-le-of-lt, mul-le-mul, mul-le-mul-right}
 use native.Mathlib.Omega.{arith}
 use borrow.Author.Needs.{needs}
 use lib.Dec.{lit<}
-use lib.IntN.{ℤ, natAbs, _+ℤ_, _*ℤ_}
+use lib.IntN.{ℤ, _+ℤ_, _*ℤ_}
 use lib.ListN.{length}
 use mir.Syntax.{w64}
 use mir.Val.{ofZ, toZ}
 use Rattle.laws.specs.Sums.{sumTo}
 use Rattle.laws.proofs.Is.{Is, again, fits}
-use Rattle.noise.specs.Lines.{Places}
 use Rattle.noise.specs.Grids.{noiseAt}
 use Rattle.noise.specs.declared.rows.Grid.{Grid}
 use Rattle.noise.proofs.LineSums.{rows-turn}

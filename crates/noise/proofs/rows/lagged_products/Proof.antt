@@ -1,14 +1,11 @@
 -- `noise::rows::lagged_products` meets its contract: the rows of both planes are grids, the second `lag` columns on. Assumes nothing.
-use mathlib.Core.Path.{_≡_, sym, ap, _∙_, subst}
-use Prim.Native.Nat.{ℕ, _+_, _-_, _*_, _≤_, _<_}
+use mathlib.Core.Path.{sym, _∙_}
+use Prim.Native.Nat.{_-_, _≤_}
 use native.Mathlib.Omega.{arith}
 use borrow.Author.Needs.{needs}
-use lib.IntN.{ℤ, _*ℤ_}
-use lib.ListN.{length}
 use lib.Seq.{length-take-le}
 use Rattle.laws.proofs.Is.{again, self}
-use Rattle.noise.specs.Grids.{sumOver, noiseAt}
-use Rattle.noise.proofs.Grids.{columnsFrom, plane-rows, plane-sum}
+use Rattle.noise.proofs.Grids.{plane-rows, plane-sum}
 use Rattle.noise.proofs.rows.lagged_products.Statement.{statement}
 use Rattle.noise.proofs.rows.lagged_products.Tie as tie
 
