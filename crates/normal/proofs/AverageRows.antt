@@ -18,7 +18,7 @@ use Rattle.normal.proofs.StartSums.{start-ext}
 
 module _ (l : Luma) {cw ch : ℕ} (O : LumaOver l cw ch) (r : ℕ) (in-rows : r < ch) where
   pub average-le : (c : ℕ) → c < cw → natAbs (quarters l r c) ≤ 16380
-  average-le c k = quarters-le (O .plane) (l .format) r (O .rows-in r in-rows) c (lt-of-lt-of-le k (le-of-eq (O .columns-are)))
+  average-le c k = quarters-le l (O .plane) r (O .rows-in r in-rows) c (lt-of-lt-of-le k (le-of-eq (O .columns-are)))
 
   -- as the line is filled, and as it is counted here
   pub averages-are : {p : List ℤ} → p ≡ tabulate (columns (subX (l .format)) (l .width)) (quarters l r) → p ≡ tabulate cw (quarters l r)
