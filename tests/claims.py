@@ -4,7 +4,8 @@
 A citation stands in backquotes: `CRATE/FILE` or `CRATE/FILE:NAME`, where FILE is a path below crates/CRATE that begins
 with src/, specs/, proofs/ or must-fail/, and NAME is declared in that file. A citation that begins with docs/, tests/,
 oracle/, host/ or include/ is a path of the repository, with or without a NAME that its text contains.
-Every `pub fn` below crates/*/src must be cited by name.
+Every function that a crate shows to other crates must be cited by name: each `pub fn` of its lib.rt and of the modules
+that lib.rt declares `pub mod`, each that lib.rt names in a `pub use`, and the methods of a type that it names so.
 """
 import pathlib
 import re
@@ -13,7 +14,7 @@ import sys
 CITATION = re.compile(r'`([A-Za-z0-9_.\-/]+/[A-Za-z0-9_.\-/]+)(?::([^`\s]+))?`')
 PARTS = ('src', 'specs', 'proofs', 'must-fail')
 OTHER = ('docs', 'tests', 'oracle', 'host', 'include')
-PUBLIC = re.compile(r'^\s*pub (?:extern "C" )?fn (\w+)', re.M)
+PUBLIC = re.compile(r'^(\s*)pub (?:extern "C" )?fn (\w+)', re.M)
 
 
 def declares(path, text, name):
@@ -23,6 +24,22 @@ def declares(path, text, name):
         return re.search(rf'\b(?:fn|struct|enum|const)\s+{word}\b', text) is not None
     head = rf'^\s*(?:(?:abbrev|unfoldable|pub|record|data)\s+)*{word}(?:\s+\{{[^}}]*\}}|\s+\([^)]*\))*\s*:'
     return re.search(head, text, re.M) is not None
+
+
+def public(source):
+    """The functions that a crate's folder src/ shows to other crates."""
+    root = source / 'lib.rt'
+    if not root.is_file():
+        return
+    shown = root.read_text()
+    for path in sorted(source.rglob('*.rt')):
+        whole = path == root or re.search(rf'^pub mod {path.stem};', shown, re.M)
+        used = set(re.findall(rf'^pub use {path.stem}::(\w+);', shown, re.M))
+        text = path.read_text()
+        types = set(re.findall(r'^impl (\w+)', text, re.M)) & used
+        for indent, name in PUBLIC.findall(text):
+            if whole or name in used or (indent.strip('\n') and types):
+                yield name
 
 
 def citations(text):
@@ -52,9 +69,9 @@ def problems(root):
             found.append(f'docs/CLAIMS.md:{line}: {path} does not contain {name}')
         elif name and crate not in OTHER and not declares(target, target.read_text(), name):
             found.append(f'docs/CLAIMS.md:{line}: {path} does not declare {name}')
-    for source in sorted(root.glob('crates/*/src/**/*.rt')):
-        crate = source.relative_to(root / 'crates').parts[0]
-        for name in PUBLIC.findall(source.read_text()):
+    for source in sorted(root.glob('crates/*/src')):
+        crate = source.parent.name
+        for name in public(source):
             if (crate, name) not in cited:
                 found.append(f'docs/CLAIMS.md: no row cites {name}, a public function of {crate}')
     if count == 0:

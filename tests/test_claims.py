@@ -5,7 +5,11 @@ import unittest
 
 import claims
 
-CODE = '''pub struct Shape {
+CODE = '''mod inner;
+pub use inner::Counter;
+pub use inner::shown;
+
+pub struct Shape {
     pub width: usize,
 }
 
@@ -20,6 +24,20 @@ fn own(x: u32) -> u32 {
     x
 }
 '''
+INNER = '''pub struct Counter {
+    at: u32,
+}
+
+impl Counter {
+    pub fn step(self) -> Counter {
+        self
+    }
+}
+
+pub fn shown() {}
+
+pub fn kept_inside() {}
+'''
 SPEC = '''-- One more.
 unfoldable pub bumped : ℕ → ℕ
 bumped x = x + 1
@@ -32,32 +50,36 @@ module _ (n : ℕ) where
 '''
 
 
+PUBLIC = '`one/src/lib.rt:bump` `one/src/inner.rt:step` `one/src/inner.rt:shown`'
+
+
 class Claims(unittest.TestCase):
     def found(self, text):
         with tempfile.TemporaryDirectory() as folder:
             root = pathlib.Path(folder)
-            for path, content in (('crates/one/src/lib.rt', CODE), ('crates/one/specs/One.antt', SPEC), ('docs/CLAIMS.md', text)):
+            for path, content in (('crates/one/src/lib.rt', CODE), ('crates/one/src/inner.rt', INNER), ('crates/one/specs/One.antt', SPEC), ('docs/CLAIMS.md', text)):
                 (root / path).parent.mkdir(parents=True, exist_ok=True)
                 (root / path).write_text(content)
             return claims.problems(root)[0]
 
     def test_true(self):
-        text = '`one/src/lib.rt:bump` `one/src/lib.rt:Shape` `one/src/lib.rt:own` `one/specs/One.antt` `docs/CLAIMS.md`'
+        text = PUBLIC + ' `one/src/lib.rt:Shape` `one/src/lib.rt:own` `one/specs/One.antt` `docs/CLAIMS.md`'
         text += ' `one/specs/One.antt:bumped` `one/specs/One.antt:Low` `one/specs/One.antt:low` `one/specs/One.antt:bumped-above`'
         self.assertEqual(self.found(text), [])
 
     def test_missing_name(self):
-        self.assertEqual(len(self.found('`one/src/lib.rt:bump` `one/specs/One.antt:bumped-below`')), 1)
+        self.assertEqual(len(self.found(PUBLIC + ' `one/specs/One.antt:bumped-below`')), 1)
 
     def test_name_only_used(self):
-        self.assertEqual(len(self.found('`one/src/lib.rt:bump` `one/src/lib.rt:bumped`')), 1)
+        self.assertEqual(len(self.found(PUBLIC + ' `one/src/lib.rt:bumped`')), 1)
 
     def test_missing_file(self):
-        self.assertEqual(len(self.found('`one/src/lib.rt:bump` `one/specs/Two.antt`')), 1)
-        self.assertEqual(len(self.found('`one/src/lib.rt:bump` `docs/NOTHING.md`')), 1)
+        self.assertEqual(len(self.found(PUBLIC + ' `one/specs/Two.antt`')), 1)
+        self.assertEqual(len(self.found(PUBLIC + ' `docs/NOTHING.md`')), 1)
 
     def test_public_function_left_out(self):
-        self.assertEqual(len(self.found('`one/specs/One.antt:bumped`')), 1)
+        for name in ('one/src/lib.rt:bump', 'one/src/inner.rt:step', 'one/src/inner.rt:shown'):
+            self.assertEqual(len(self.found(PUBLIC.replace(f'`{name}`', '`one/specs/One.antt:bumped`'))), 1)
 
     def test_nothing_cited(self):
         self.assertIn('docs/CLAIMS.md: no citation found', self.found('No claims.'))
