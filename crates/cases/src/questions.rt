@@ -1,0 +1,64 @@
+// "Sizes 4,096 and 4,097; sample 255 and 256 at 8 bits; register bits 16 and 17." "Order 0 and 26: 8. Pivot 1e-9 passes."
+use crate::say::number;
+use crate::say::say;
+use random::Draw;
+use random::RandomRegister;
+
+// What the row correlation of one sample refuses with; 1000 where it does not.
+fn sample_number(sample: u16) -> u64 {
+    let y = [sample];
+    match gate::lag_h_rho(&y, &y, 1, 1, 1, 8) {
+        gate::Rho::Refused(n) => number(n),
+        gate::Rho::Value(_) => 1000,
+    }
+}
+
+// What the denoiser answers to an empty plane of this width.
+fn width_number(width: usize) -> u64 {
+    let y = [0u16; 1];
+    let mut d = [0u16; 1];
+    number(denoise::denoise_plane(&y[..0], &mut d[..0], width, 0))
+}
+
+fn bits_number(bits: u32) -> u64 {
+    let s = RandomRegister::new(1).stepped(bits);
+    let draw = s.draw;
+    match draw {
+        Draw::Refused(n) => number(n),
+        Draw::Value(v) => number(v),
+    }
+}
+
+fn order_number(order: usize) -> u64 {
+    let a = [[0.0f64; 25]; 25];
+    let b = [0.0f64; 25];
+    number(solve::solve_normal(a, b, order).refusal)
+}
+
+// Whether a single equation with this pivot has a solution.
+fn pivot_passes(pivot: f64) -> u64 {
+    let mut a = [[0.0f64; 25]; 25];
+    let b = [1.0f64; 25];
+    a[0][0] = pivot;
+    if solve::solve_normal(a, b, 1).found {
+        1
+    } else {
+        0
+    }
+}
+
+pub fn run() {
+    say(b"width 4,096", width_number(4096));
+    say(b"width 4,097", width_number(4097));
+    say(
+        b"sample 255 at 8 bits, 1000 where accepted",
+        sample_number(255),
+    );
+    say(b"sample 256 at 8 bits", sample_number(256));
+    say(b"16 bits of the register at 1", bits_number(16));
+    say(b"17 bits of the register at 1", bits_number(17));
+    say(b"order 0", order_number(0));
+    say(b"order 26", order_number(26));
+    say(b"pivot 1e-9 passes", pivot_passes(1e-9));
+    say(b"pivot 9e-10 passes", pivot_passes(9e-10));
+}
