@@ -1,0 +1,88 @@
+-- `normal::blocks::add_to` meets its contract: the places passed have their numbers added. Assumes nothing.
+use mathlib.Core.Path.{refl}
+use Prim.Native.Nat.{_-_}
+use native.Mathlib.Omega.{arith}
+use lib.IntN.{ℤ, _+ℤ_}
+use lib.ListN.{length, length-set}
+use mir.Syntax.{w64}
+use mir.Val.{ofZ, toZ}
+use Rattle.laws.proofs.Is.{Is, fits, again}
+use Rattle.noise.specs.Lines.{at}
+use Rattle.normal.proofs.StartSums.{kept}
+use Rattle.normal.proofs.Adding.{Adding, adding-starts, added-is, adding-turn, adding-ends}
+use borrow.Author.Needs.{needs}
+use Rattle.normal.proofs.blocks.add_to.Statement.{statement}
+use Rattle.normal.proofs.blocks.add_to.Tie as tie
+
+abbrev Inv-loop : tie.InvT-loop
+Inv-loop sums₀ more i₀ sums i = Adding (at more) sums₀ sums i
+
+abbrev μ-loop : tie.MeasureT-loop
+μ-loop sums₀ more i₀ sums i = length sums - i
+
+loop-holds : tie.Need-loop-holds Inv-loop μ-loop
+loop-holds c = adding-starts _ _
+
+mul-x : tie.Need-mul-x Inv-loop μ-loop
+mul-x c = search needs
+
+slice-copy-out-x : tie.Need-slice-copy-out-x Inv-loop μ-loop
+slice-copy-out-x c = search needs
+
+mul-y : tie.Need-mul-y Inv-loop μ-loop
+mul-y c = search needs
+
+shared-slice-copy-out-y : tie.Need-shared-slice-copy-out-y Inv-loop μ-loop
+shared-slice-copy-out-y c = search needs
+
+-- a turn's sum
+added : (c : tie.After-y Inv-loop μ-loop) → let A = c .before .before .before .before .args in
+    let H = c .before .before .before .loop in
+    Is w64 (toZ w64 (ofZ w64 (at (H .sums) (H .i))) +ℤ toZ w64 (ofZ w64 (at (A .more .now) (H .i)))) (at (A .sums .now) (H .i) +ℤ at (A .more .now) (H .i))
+added c =
+    let H = c .before .before .before .loop in
+    added-is _ _ (H .i) (H .inv) (record { sfits = c .before .x .given }) (kept (record { sfits = c .y .given }) refl) (c .before .before .before .before .pre .small (H .i) (search needs))
+
+add-sums : tie.Need-add-sums Inv-loop μ-loop
+add-sums c = fits (added c)
+
+mul-t6 : tie.Need-mul-t6 Inv-loop μ-loop
+mul-t6 c = search needs
+
+slice-set-from-sums : tie.Need-slice-set-from-sums Inv-loop μ-loop
+slice-set-from-sums c = search needs
+
+add-i : tie.Need-add-i Inv-loop μ-loop
+add-i c = search needs
+
+loop-less : tie.Need-loop-less Inv-loop μ-loop
+loop-less c = simp length-set (omega arith)
+
+loop-again : tie.Need-loop-again Inv-loop μ-loop
+loop-again c = adding-turn _ _ (c .before .before .before .loop .i) (c .before .before .before .loop .inv) _ (search needs) (again (added c) .eq)
+
+same-length : tie.Need-same-length Inv-loop μ-loop
+same-length c = search needs
+
+returns : tie.Need-returns Inv-loop μ-loop
+returns c = adding-ends _ _ (c .before .loop .i) (c .before .loop .inv) (search needs)
+
+pub add-to-spec : {M : Type 1} → statement M
+add-to-spec =
+    tie.close
+    (tie.spec
+    Inv-loop
+    μ-loop
+    loop-holds
+    mul-x
+    slice-copy-out-x
+    mul-y
+    shared-slice-copy-out-y
+    add-sums
+    mul-t6
+    slice-set-from-sums
+    add-i
+    loop-less
+    loop-again
+    same-length
+    returns)

@@ -1,0 +1,99 @@
+-- `normal::plane::plane_matrix` meets its contract: each entry stands in the sums of pairs of rows. Assumes nothing.
+use mathlib.Core.Path.{sym, _∙_, subst}
+use Prim.Native.Nat.{ℕ, _-_, _*_}
+use native.Mathlib.Omega.{arith}
+use Rattle.noise.specs.Grids.{noiseAt}
+use Rattle.normal.specs.Normal.{side}
+use Rattle.normal.specs.Rows.{Plot}
+use Rattle.normal.proofs.Entries.{window-plot, matrix-is}
+use Rattle.normal.proofs.Sizes.{factors-le, neighbours-le}
+use borrow.Author.Needs.{needs}
+use Rattle.normal.proofs.plane.plane_matrix.Statement.{statement}
+use Rattle.normal.proofs.plane.plane_matrix.Tie as tie
+
+add-starts : tie.Need-add-starts
+add-starts c = search needs
+
+mul-side : tie.Need-mul-side
+mul-side c = search needs
+
+add-side : tie.Need-add-side
+add-side c = search needs
+
+mul-n : tie.Need-mul-n
+mul-n c = search needs
+
+sub-n : tie.Need-sub-n
+sub-n c = search needs
+
+sub-pass-rows : tie.Need-sub-pass-rows
+sub-pass-rows c = search needs
+
+pass-rows-requires : tie.Need-pass-rows-requires
+pass-rows-requires c κs =
+    let S = c .before .before .before .before .before .before in
+    let A = S .args in (
+      subst (λ (m : ℕ). Plot (A .src .now) (A .den .now) (A .grid) m (A .h) (A .w - 2 * A .lag) (side (A .lag))) (sym (S .pre .2)) (window-plot (S .pre .0) (S .pre .1)),
+      omega (arith, S .pre .1 .rows),
+      S .pre .3 ∙ sym (S .pre .2),
+      S .pre .4,
+      S .pre .5,
+    )
+
+mul-order : tie.Need-mul-order
+mul-order c = let h = c .before .before .before .before .before .before .before .before .before .before .before .pre .1 .few in omega arith
+
+add-order : tie.Need-add-order
+add-order c = let h = c .before .before .before .before .before .before .before .before .before .before .before .pre .1 .few in omega arith
+
+mul-order-2 : tie.Need-mul-order-2
+mul-order-2 c = omega (arith, neighbours-le (c .before .before .before .before .before .before .before .before .before .before .before .pre .1 .few))
+
+add-order-2 : tie.Need-add-order-2
+add-order-2 c = omega (arith, neighbours-le (c .before .before .before .before .before .before .before .before .before .before .before .pre .1 .few))
+
+copy-entries-requires : tie.Need-copy-entries-requires
+copy-entries-requires c κs = let S = c .before .before .before .before .before .before .before .before .before .before .before .before .before in (factors-le (S .args .lag), c .before .before .before .before .before .before .pass-rows .ensures .size, S .pre .6)
+
+same-length : tie.Need-same-length
+same-length c = search needs
+
+same-length-2 : tie.Need-same-length-2
+same-length-2 c = search needs
+
+same-length-3 : tie.Need-same-length-3
+same-length-3 c = search needs
+
+same-length-4 : tie.Need-same-length-4
+same-length-4 c = search needs
+
+same-length-5 : tie.Need-same-length-5
+same-length-5 c = search needs
+
+returns : tie.Need-returns
+returns c =
+    let A = c .before .before .before .before .before .before .before .before .before .before .before .before .before .before .before .args in
+    c .before .copy-entries .ensures ∙ matrix-is (noiseAt (A .src .now) (A .den .now) (A .grid)) (A .w) (A .h) (A .lag) (c .before .before .before .before .before .before .before .before .pass-rows .ensures)
+
+pub plane-matrix-spec : {M : Type 1} → statement M
+plane-matrix-spec =
+    tie.close
+    (tie.spec
+    add-starts
+    mul-side
+    add-side
+    mul-n
+    sub-n
+    sub-pass-rows
+    pass-rows-requires
+    mul-order
+    add-order
+    mul-order-2
+    add-order-2
+    copy-entries-requires
+    same-length
+    same-length-2
+    same-length-3
+    same-length-4
+    same-length-5
+    returns)

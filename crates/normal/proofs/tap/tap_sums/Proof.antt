@@ -1,0 +1,94 @@
+-- `normal::tap::tap_sums` meets its contract: the lines have room for a row. Assumes nothing.
+use mathlib.Core.Path.{sym, subst}
+use Prim.Native.Nat.{ℕ}
+use lib.Seq.{length-take-le}
+use Rattle.normal.specs.Rows.{Zeros}
+use borrow.Author.Needs.{needs}
+use Rattle.normal.proofs.tap.tap_sums.Statement.{statement}
+use Rattle.normal.proofs.tap.tap_sums.Tie as tie
+
+blank-line-requires : tie.Need-blank-line-requires
+blank-line-requires c κs = search needs
+
+blank-line-requires-2 : tie.Need-blank-line-requires-2
+blank-line-requires-2 c κs = search needs
+
+blank-line-requires-3 : tie.Need-blank-line-requires-3
+blank-line-requires-3 c κs = search needs
+
+blank-line-requires-4 : tie.Need-blank-line-requires-4
+blank-line-requires-4 c κs = search needs
+
+clear-requires : tie.Need-clear-requires
+clear-requires c κs = search needs
+
+clear-requires-2 : tie.Need-clear-requires-2
+clear-requires-2 c κs = search needs
+
+array-borrow-prefix-top : tie.Need-array-borrow-prefix-top
+array-borrow-prefix-top c = search needs
+
+slice-aggregate-tap-rows : tie.Need-slice-aggregate-tap-rows
+slice-aggregate-tap-rows c = sym (length-take-le (c .before .before .before .before .before .before .before .before .before .before .before .before .before .before .before .before .before .args .w) (c .before .before .before .before .before .before .before .before .before .before .blank-line .result) (array-borrow-prefix-top (c .before)))
+
+array-borrow-prefix-bottom : tie.Need-array-borrow-prefix-bottom
+array-borrow-prefix-bottom c = search needs
+
+slice-aggregate-tap-rows-2 : tie.Need-slice-aggregate-tap-rows-2
+slice-aggregate-tap-rows-2 c = sym (length-take-le (c .before .before .before .before .before .before .before .before .before .before .before .before .before .before .before .before .before .before .args .w) (c .before .before .before .before .before .before .before .before .before .before .blank-line2 .result) (array-borrow-prefix-bottom (c .before)))
+
+array-borrow-prefix-averages : tie.Need-array-borrow-prefix-averages
+array-borrow-prefix-averages c = search needs
+
+slice-aggregate-tap-rows-3 : tie.Need-slice-aggregate-tap-rows-3
+slice-aggregate-tap-rows-3 c = sym (length-take-le (c .before .before .before .before .before .before .before .before .before .before .before .before .before .before .before .before .before .before .before .args .cw) (c .before .before .before .before .before .before .before .before .before .before .blank-line3 .result) (array-borrow-prefix-averages (c .before)))
+
+array-borrow-prefix-line : tie.Need-array-borrow-prefix-line
+array-borrow-prefix-line c = search needs
+
+slice-aggregate-tap-rows-4 : tie.Need-slice-aggregate-tap-rows-4
+slice-aggregate-tap-rows-4 c = sym (length-take-le (c .before .before .before .before .before .before .before .before .before .before .before .before .before .before .before .before .before .before .before .before .args .cw) (c .before .before .before .before .before .before .before .before .before .before .blank-line4 .result) (array-borrow-prefix-line (c .before)))
+
+tap-rows-requires : tie.Need-tap-rows-requires
+tap-rows-requires c κs =
+    let S = c .before .before .before .before .before .before .before .before .before .before .before .before .before .before .before .before .before .before .before .before .before .before in (
+      S .pre .0,
+      sym (slice-aggregate-tap-rows (c .before .before .before .before .before)),
+      sym (slice-aggregate-tap-rows-2 (c .before .before .before .before)),
+      sym (slice-aggregate-tap-rows-3 (c .before .before .before)),
+      sym (slice-aggregate-tap-rows-4 (c .before .before)),
+      subst (λ (m : ℕ). Zeros m (c .before .before .before .before .before .before .before .before .before .before .clear .last .0)) (S .pre .1) (c .before .before .before .before .before .before .before .before .before .before .clear .ensures),
+      subst (λ (m : ℕ). Zeros m (c .before .before .before .before .before .before .before .clear2 .last .0)) (S .pre .2) (c .before .before .before .before .before .before .before .clear2 .ensures),
+    )
+
+same-length : tie.Need-same-length
+same-length c = search needs
+
+same-length-2 : tie.Need-same-length-2
+same-length-2 c = search needs
+
+returns : tie.Need-returns
+returns c = search needs
+
+pub tap-sums-spec : {M : Type 1} → statement M
+tap-sums-spec =
+    tie.close
+    (tie.spec
+    blank-line-requires
+    blank-line-requires-2
+    blank-line-requires-3
+    blank-line-requires-4
+    clear-requires
+    clear-requires-2
+    array-borrow-prefix-top
+    slice-aggregate-tap-rows
+    array-borrow-prefix-bottom
+    slice-aggregate-tap-rows-2
+    array-borrow-prefix-averages
+    slice-aggregate-tap-rows-3
+    array-borrow-prefix-line
+    slice-aggregate-tap-rows-4
+    tap-rows-requires
+    same-length
+    same-length-2
+    returns)
