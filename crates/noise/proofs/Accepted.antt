@@ -1,10 +1,11 @@
--- The planes of an accepted call are within the claim's limit, luma and chroma. Assumes nothing.
+-- The planes of an accepted call, luma and chroma, are planes that the kernels take, and within the claim's limit. Assumes nothing.
 use mathlib.Core.List.{List}
-use Prim.Native.Nat.{ℕ, _*_}
+use Prim.Native.Nat.{ℕ, _*_, _≤_}
 use native.Mathlib.Nat.{le-refl, le-trans}
 use Rattle.frame.specs.Size.{chromaWidth, chromaHeight}
 use Rattle.frame.proofs.Size.{chroma-width-le, chroma-height-le}
 use Rattle.frame.proofs.Facts.{Small, Plane}
+use Rattle.noise.specs.Lines as lines
 use Rattle.noise.specs.Claim.{Samples, frameSamples, frameTop}
 use Rattle.noise.proofs.Products.{frame-samples}
 
@@ -13,3 +14,16 @@ accepted-samples w h depth source denoised S P Q = frame-samples w h 12 source d
 
 pub chroma-small : (format w h : ℕ) → Small w h → Small (chromaWidth format w) (chromaHeight format h)
 chroma-small format w h S = record { wide = le-trans (chroma-width-le format w) (S .wide); high = le-trans (chroma-height-le format h) (S .high) }
+
+-- a plane and its copy of one size, whose samples are low
+pub plane-of : (w h depth : ℕ) (source denoised : List ℕ) → Plane (w * h) depth source → Plane (w * h) depth denoised → lines.Plane w h source denoised
+plane-of w h depth source denoised P Q = record {
+  source-size = P .samples;
+  denoised-size = Q .samples;
+  source-low = λ i l. P .below-12 i;
+  denoised-low = λ i l. Q .below-12 i;
+}
+
+pub plane-samples : (w h : ℕ) (source denoised : List ℕ) → w ≤ 4096 → h ≤ 4096 → lines.Plane w h source denoised → Samples frameSamples frameTop source denoised (w * h)
+plane-samples w h source denoised n l P =
+    frame-samples w h 12 source denoised n l (le-refl 12) (λ i k. P .source-low i (rw (P .source-size) k)) (λ i k. P .denoised-low i (rw (P .denoised-size) k))

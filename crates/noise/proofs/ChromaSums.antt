@@ -22,7 +22,7 @@ module _ (l : Luma) {source denoised : List ℕ} {cw ch : ℕ} (K : Component l 
   pub narrow : cw ≤ 2 ^ 12
   narrow = le-trans (le-of-eq (K .columns)) (columns-le (l .format) (l .width) (K .narrow))
 
-  low : ch ≤ 2 ^ 12
+  pub low : ch ≤ 2 ^ 12
   low = le-trans (le-of-eq (K .rows)) (rows-le (l .format) (l .height) (K .low))
 
   -- the sum of products of at most m in size

@@ -1,0 +1,3 @@
+pub mod Averages
+pub mod Taps
+pub mod Answers

@@ -1,0 +1,35 @@
+-- "Sum of luma average × chroma noise over sum of squared averages, quantised; 0 if the latter is at most 1e-9."
+-- The closure `corr` of `fit_chroma_corr`: rows and columns in order, each sum from 0.0.
+use mathlib.Core.Bool.{cond}
+use mathlib.Core.List.{List}
+use Prim.Native.Nat.{ℕ}
+use lib.Dec.{eqb}
+use lib.IntN.{ℤ, pos}
+use lib.ListN.{length}
+use lib.Ieee.{Float, binary64, div, le, ofBits}
+use Rattle.float.specs.Steps.{quantAr}
+use Rattle.noise.specs.Average.{Luma}
+use Rattle.noise.specs.Products.{Pair, own, average}
+use Rattle.noise.specs.Steps.{windowF}
+
+-- a plane w wide and h high, and its denoised copy
+abbrev pub pair : List ℕ → List ℕ → ℕ → ℕ → Pair
+pair source denoised w h = record { source = source; denoised = denoised; width = w; height = h }
+
+-- 1e-9
+abbrev pub tiny : Float
+tiny = ofBits binary64 0x3e11_2e0b_e826_d695
+
+-- `s_ll += l * l;`
+unfoldable pub squaresF : Luma → Pair → Float
+squaresF luma chroma = windowF (average luma) (average luma) 0 (chroma .height) 0 (chroma .width)
+
+-- `s_lc += l * c;`
+unfoldable pub productsF : Luma → Pair → Float
+productsF luma chroma = windowF (average luma) (own chroma) 0 (chroma .height) 0 (chroma .width)
+
+-- `if s_ll <= 1e-9 { 0 } else { quant_ar(s_lc / s_ll) }`, and 0 of an empty plane
+unfoldable pub corr : Luma → Pair → ℤ
+corr luma chroma =
+    cond (eqb (length (chroma .source)) 0) (pos 0)
+    (cond (le (squaresF luma chroma) tiny) (pos 0) (quantAr (div binary64 (productsF luma chroma) (squaresF luma chroma))))

@@ -1,0 +1,5 @@
+pub mod PlaneSums
+pub mod Accepted
+pub mod Rows
+pub mod Findings
+pub mod Answers

@@ -1,0 +1,34 @@
+-- "The answer is a refusal number or an f64." "A refused call returns its number, with every other field of the answer zero." The answers of the calls.
+use mathlib.Core.List.{List}
+use Prim.Native.Nat.{ℕ, zero, suc}
+use mathlib.Core.Bool.{Bool, false}
+use lib.Ieee.{Float}
+use Rattle.frame.specs.Size.{chromaWidth, chromaHeight}
+use Rattle.frame.specs.Calls.{deepPlaneRefusal, chromaGateRefusal}
+use Rattle.gate.specs.RowCorrelation.{pair, rowCorrelation}
+use Rattle.frame.specs.Questions.{accepted}
+use Rattle.frame.specs.declared.Shape.{Shape}
+use Rattle.gate.specs.Tests.{chromaFinding, isPassed}
+use Rattle.gate.specs.declared.Gate.{Gate}
+use Rattle.gate.specs.declared.Rho.{Rho}
+use Rattle.gate.specs.declared.Rho.the-variants.{Refused, Value}
+
+-- 0 brings the value, any other number is a refusal
+abbrev pub rho : ℕ → Float → Rho
+rho zero x = Value x
+rho (suc n) x = Refused (suc n)
+
+-- `lag_h_rho`
+unfoldable pub rhoAnswer : List ℕ → List ℕ → ℕ → ℕ → ℕ → ℕ → Rho
+rhoAnswer source denoised w h lag depth = rho (deepPlaneRefusal w h depth source denoised) (rowCorrelation (pair source denoised w h) lag)
+
+-- the answer of a gate, from the number of its questions
+abbrev pub gate : ℕ → Bool → Gate
+gate n passes = record { refusal = n; yes = accepted n passes false }
+
+-- `chroma_noise_gate`
+unfoldable pub chromaAnswer : Shape → List ℕ → List ℕ → List ℕ → List ℕ → ℕ → Gate
+chromaAnswer s c₀ d₀ c₁ d₁ sigma16 =
+    let w = chromaWidth (s .format) (s .width) in
+    let h = chromaHeight (s .format) (s .height) in
+    gate (chromaGateRefusal s c₀ d₀ c₁ d₁) (isPassed (chromaFinding sigma16 (pair c₀ d₀ w h) (pair c₁ d₁ w h)))

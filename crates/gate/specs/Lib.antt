@@ -1,0 +1,3 @@
+pub mod RowCorrelation
+pub mod Tests
+pub mod Answers

@@ -1,0 +1,59 @@
+-- "Luma is lent Y of both frames and of their denoised copies, and says no, in this order: sigma16 of the first below 16; its energy 0; row correlation at lag 1 of magnitude 0.75 or more; the second's energy 0. Then yes exactly if |cross/root(e0×e1)| < 0.4 in rounded f64.
+-- Chroma is lent one component .. and handed a sigma16: below 8 is no, an empty plane is no, then row correlation, then the first's energy 0, then the second's, then the same test."
+-- The steps of `film_grain_probe` and `chroma_noise_gate`: they end at the first test that fails.
+use mathlib.Core.Bool.{Bool, true, false, cond}
+use Prim.Native.Nat.{ℕ, _-_, _*_}
+use lib.Dec.{ltb, eqb}
+use lib.Ieee.{Float, binary64, div, mul, le, lt, ofBits}
+use Rattle.laws.specs.Scaled.{plusZero}
+use Rattle.float.specs.Magnitude.{magnitudeOf}
+use Rattle.float.specs.Root.{root}
+use Rattle.noise.specs.Products.{Pair, own, onward}
+use Rattle.noise.specs.Steps.{windowF, dotF}
+use Rattle.gate.specs.RowCorrelation.{rowCorrelation}
+use Rattle.gate.specs.declared.tests.Finding.{Finding}
+use Rattle.gate.specs.declared.tests.Finding.the-variants.{LowSigma, EmptyPlane, NoEnergyFirst, RowCorrelated, NoEnergySecond, TimeCorrelated, Passed}
+
+-- 0.75 and 0.4
+abbrev pub rowBound : Float
+rowBound = ofBits binary64 0x3fe8_0000_0000_0000
+
+abbrev pub timeBound : Float
+timeBound = ofBits binary64 0x3fd9_9999_9999_999a
+
+-- `(cross / (e0 * e1).sqrt()).abs() < 0.4`
+unfoldable pub temporal : Pair → Pair → Finding
+temporal p q = cond (lt (magnitudeOf (div binary64 (dotF p q) (root (mul binary64 (dotF p p) (dotF q q))))) timeBound) Passed TimeCorrelated
+
+-- `lag / e0` of `film_grain_probe`: rows 0..h and columns 0..w - 1
+unfoldable pub lumaRow : Pair → Float
+lumaRow p = div binary64 (windowF (own p) (onward p 1) 0 (p .height) 0 (p .width - 1)) (dotF p p)
+
+-- the luma gate, from the sigma16 of the first frame's Y
+unfoldable pub lumaFinding : ℕ → Pair → Pair → Finding
+lumaFinding sigma16 p q =
+    cond (ltb sigma16 16) LowSigma
+    (cond (le (dotF p p) plusZero) NoEnergyFirst
+    (cond (le rowBound (magnitudeOf (lumaRow p))) RowCorrelated
+    (cond (le (dotF q q) plusZero) NoEnergySecond
+    (temporal p q))))
+
+-- the chroma gate
+unfoldable pub chromaFinding : ℕ → Pair → Pair → Finding
+chromaFinding sigma16 p q =
+    cond (ltb sigma16 8) LowSigma
+    (cond (eqb (p .width * p .height) 0) EmptyPlane
+    (cond (le rowBound (magnitudeOf (rowCorrelation p 1))) RowCorrelated
+    (cond (le (dotF p p) plusZero) NoEnergyFirst
+    (cond (le (dotF q q) plusZero) NoEnergySecond
+    (temporal p q)))))
+
+-- yes
+abbrev pub isPassed : Finding → Bool
+isPassed LowSigma = false
+isPassed EmptyPlane = false
+isPassed NoEnergyFirst = false
+isPassed RowCorrelated = false
+isPassed NoEnergySecond = false
+isPassed TimeCorrelated = false
+isPassed Passed = true

@@ -1,0 +1,27 @@
+// The correlations of noise along a row and between two frames.
+use crate::sums;
+ghost use mathlib.Core.Path.{_≡_};
+ghost use Prim.Native.Nat.{_≤_};
+ghost use Rattle.noise.specs.Lines.{Plane};
+ghost use Rattle.gate.specs.RowCorrelation.{pair, rowCorrelation};
+
+// Σ n(r, c) × n(r, c + lag) / Σ n(r, c)².
+pub fn row_correlation(src: &[u16], den: &[u16], w: usize, h: usize, lag: usize) -> f64
+    requires { ⌜ Plane w h (now src) (now den) × (w ≤ 4096) × (h ≤ 4096) ⌝ }
+    ensures { λ r. ⌜ r ≡ rowCorrelation (pair (now (src .entry)) (now (den .entry)) w h) lag ⌝ }
+{
+    if lag == 0 {
+        return 0.0;
+    }
+    if w <= lag {
+        return 0.0;
+    }
+    if h == 0 {
+        return 0.0;
+    }
+    let energy = sums::dot(src, den, src, den, w, h);
+    if energy <= 0.0 {
+        return 0.0;
+    }
+    sums::lagged(src, den, w, h, lag) / energy
+}
