@@ -18,7 +18,7 @@ use Rattle.profile.specs.Words.{PlaneInWords, InWords}
 use Rattle.profile.specs.Parts.{Pair}
 use Rattle.profile.proofs.Binning.{count-le, bin-le}
 use Rattle.profile.proofs.Lows.{Low, ranges}
-use Rattle.profile.proofs.PlaneParts.{square-small}
+use Rattle.profile.proofs.PlaneParts.{low-to, square-small}
 use Rattle.profile.proofs.StepSums.{plane-sum, totals-are}
 use Rattle.profile.proofs.AddUp.{counts-add-up, squares-add-up, profile-plane}
 use Rattle.profile.proofs.Figures.{plane-small}
@@ -57,7 +57,7 @@ module _ {depth : ℕ} {source denoised : List ℕ} (P : Pair (2 ^ 24) depth sou
     bin-nearest j h =
         let bin = binAt bits shift source in
         sigma16-nearest (sumN (inBin bin j sq) n) (sumN (inBin bin j (λ i. 1)) n) h (le-trans (count-le bin n j) (P .few))
-        (bin-le bin sq n j 65536 (square-small P (record { source-low = λ i l. L .source-low i; denoised-low = λ i l. L .denoised-low i })))
+        (bin-le bin sq n j 65536 (square-small P (low-to n L)))
 
     pub in-words : (least : ℕ) → 0 < least → InWords bits least shift source denoised (profile bits least shift source denoised)
     unfolding profile sigmaOfBin

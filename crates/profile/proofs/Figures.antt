@@ -11,7 +11,7 @@ use Rattle.profile.specs.Steps.{planeSquares, totals, leastCount, sigmaO
 use Rattle.profile.specs.Parts.{Pair, Profiled}
 use Rattle.profile.proofs.Sums.{sum-bound}
 use Rattle.profile.proofs.Lows.{Low}
-use Rattle.profile.proofs.PlaneParts.{square-small}
+use Rattle.profile.proofs.PlaneParts.{low-to, square-small}
 use Rattle.profile.proofs.StepSums.{plane-sum}
 use Rattle.profile.proofs.AddUp.{totals-sum, squares-sum}
 
@@ -19,7 +19,7 @@ module _ {depth : ℕ} {source denoised : List ℕ} (P : Pair (2 ^ 24) depth sou
   pub plane-small : planeSquares (depth - 8) source denoised ≤ 65536 * length source
   plane-small =
       rw (plane-sum (depth - 8) source denoised)
-      (sum-bound 65536 _ (length source) (square-small P (record { source-low = λ i l. L .source-low i; denoised-low = λ i l. L .denoised-low i })))
+      (sum-bound 65536 _ (length source) (square-small P (low-to (length source) L)))
 
   pub bins-fit : (bits : ℕ) {squares : List ℕ} → squares ≡ totals bits (depth - 8) source denoised .binSq → sumOf squares < 2 ^ 64
   bins-fit bits e = rw (e, squares-sum bits (depth - 8) source denoised) (omega (arith, plane-small, P .few))

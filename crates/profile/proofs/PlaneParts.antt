@@ -36,6 +36,9 @@ pub record LowTo (depth : ℕ) (source denoised : List ℕ) (k : ℕ) : Type 0 w
   pub source-low : (i : ℕ) → i < k → getD source i 0 < 2 ^ depth
   pub denoised-low : (i : ℕ) → i < k → getD denoised i 0 < 2 ^ depth
 
+pub low-to : {depth : ℕ} {source denoised : List ℕ} (k : ℕ) → Low depth source denoised → LowTo depth source denoised k
+low-to k L = record { source-low = λ i l. L .source-low i; denoised-low = λ i l. L .denoised-low i }
+
 pub low-none : (depth : ℕ) (source denoised : List ℕ) → LowTo depth source denoised 0
 low-none depth source denoised = record { source-low = λ i l. absurd (omega arith); denoised-low = λ i l. absurd (omega arith) }
 

@@ -29,8 +29,8 @@ sigmaCases =
     record { input = record { width = 2; height = 2; depth = 8; source = 1 ∷ 0 ∷ 0 ∷ 0 ∷ []; denoised = 0 ∷ 0 ∷ 0 ∷ 0 ∷ [] }; stated = figure 8 } ∷
     record { input = record { width = 1024; height = 1; depth = 8; source = 1 ∷ replicate 1023 0; denoised = replicate 1024 0 }; stated = figure 1 } ∷
     record { input = record { width = 1025; height = 1; depth = 8; source = 1 ∷ replicate 1024 0; denoised = replicate 1025 0 }; stated = figure 0 } ∷
-    record { input = record { width = 3; height = 1; depth = 10; source = replicate 3 4; denoised = replicate 3 5 }; stated = figure 16 } ∷
-    record { input = record { width = 3; height = 1; depth = 10; source = replicate 3 5; denoised = replicate 3 4 }; stated = figure 0 } ∷
+    record { input = record { width = 3; height = 1; depth = 10; source = replicate 3 5; denoised = replicate 3 6 }; stated = figure 16 } ∷
+    record { input = record { width = 3; height = 1; depth = 10; source = replicate 3 4; denoised = replicate 3 3 }; stated = figure 0 } ∷
     record { input = record { width = 0; height = 7; depth = 12; source = []; denoised = [] }; stated = figure 0 } ∷
     record { input = record { width = 1; height = 1; depth = 8; source = 256 ∷ []; denoised = 0 ∷ [] }; stated = record { refusal = 6; sigma16 = 0 } } ∷
     []

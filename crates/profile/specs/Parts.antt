@@ -1,6 +1,6 @@
--- What the functions over a part of a plane ask and promise. A part is a run of samples of a plane, with the same places of its denoised copy.
+-- "noise vectors: noise worked out from two lent planes as needed": here part by part, a part being a run of samples and the same places of the denoised copy. What the functions over parts and planes ask and promise.
 use mathlib.Core.Path.{_≡_}
-use mathlib.Core.Bool.{Bool, _&&_}
+use mathlib.Core.Bool.{Bool, true, _&&_}
 use mathlib.Core.List.{List}
 use Prim.Native.Nat.{ℕ, _+_, _^_, _≤_, _<_}
 use lib.IntN.{ℤ, natAbs}
@@ -23,6 +23,10 @@ pub record Pair (most depth : ℕ) (source denoised : List ℕ) : Type 0 where
 -- question 6, of both
 abbrev pub bothLow : ℕ → List ℕ → List ℕ → Bool
 bothLow depth source denoised = low depth source && low depth denoised
+
+-- it is answered, and where the answer is yes, a fact holds
+abbrev pub LowThen : Bool → ℕ → List ℕ → List ℕ → Type 0 → Type 0
+LowThen answer depth source denoised fact = (answer ≡ bothLow depth source denoised) × (answer ≡ true → fact)
 
 -- a part's line of small numbers; and with the bin of each
 pub record Small (line : List ℤ) : Type 0 where

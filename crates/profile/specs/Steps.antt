@@ -75,7 +75,7 @@ profiled bits least n t =
       squares = t .binSq;
     }
 
--- 2 ^ bits bins, and the least count of a bin in a small plane
+-- 2 ^ bits bins, and the least count of a bin in a small plane. For luma the Rust has n = `y.len().max(1)`: an accepted frame has a luma sample.
 unfoldable pub profile : ℕ → ℕ → ℕ → List ℕ → List ℕ → Profile
 unfolding totals
 profile bits least shift source denoised = profiled bits least (length source) (totals bits shift source denoised)
