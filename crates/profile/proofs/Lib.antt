@@ -1,0 +1,15 @@
+pub mod Sums
+pub mod Tables
+pub mod Squares
+pub mod Range
+pub mod Lows
+pub mod Binning
+pub mod Kept
+pub mod Asked
+pub mod Answered
+pub mod StepSums
+pub mod PlaneParts
+pub mod PartTables
+pub mod AddUp
+pub mod Figures
+pub mod PartBins

@@ -1,0 +1,70 @@
+-- `profile::bins::bin_line` meets its contract: the places passed are filled with the shifted samples. Assumes nothing.
+use mathlib.Core.Path.{_≡_, refl}
+use Prim.Native.Nat.{ℕ, _-_, _/_, _^_, _≤_, _<_}
+use native.Mathlib.Omega.{arith}
+use borrow.Author.Needs.{needs}
+use lib.ListN.{length, getD, length-set}
+use Rattle.noise.proofs.Fill.{Filled, fill-starts, fill-turn, fill-ends}
+use Rattle.profile.proofs.bins.bin_line.Statement.{statement}
+use Rattle.profile.proofs.bins.bin_line.Tie as tie
+
+abbrev Inv-loop : tie.InvT-loop
+Inv-loop src shift bins₀ i₀ bins i = Filled (λ k. getD src k 0 / 2 ^ shift) bins₀ bins i
+
+abbrev μ-loop : tie.MeasureT-loop
+μ-loop src shift bins₀ i₀ bins i = length bins - i
+
+loop-holds : tie.Need-loop-holds Inv-loop μ-loop
+loop-holds c = fill-starts _ _
+
+mul-x : tie.Need-mul-x Inv-loop μ-loop
+mul-x c = search needs
+
+shared-slice-read-x : tie.Need-shared-slice-read-x Inv-loop μ-loop
+shared-slice-read-x c = search needs
+
+cast-bins : tie.Need-cast-bins Inv-loop μ-loop
+cast-bins c = search needs
+
+shr-bins : tie.Need-shr-bins Inv-loop μ-loop
+shr-bins c = search needs
+
+mul-bins : tie.Need-mul-bins Inv-loop μ-loop
+mul-bins c = search needs
+
+slice-write-bins : tie.Need-slice-write-bins Inv-loop μ-loop
+slice-write-bins c = search needs
+
+add-i : tie.Need-add-i Inv-loop μ-loop
+add-i c = search needs
+
+loop-less : tie.Need-loop-less Inv-loop μ-loop
+loop-less c = simp length-set (omega arith)
+
+loop-again : tie.Need-loop-again Inv-loop μ-loop
+loop-again c = fill-turn _ _ _ (c .before .before .loop .inv) (search needs) refl
+
+same-length : tie.Need-same-length Inv-loop μ-loop
+same-length c = search needs
+
+returns : tie.Need-returns Inv-loop μ-loop
+returns c = fill-ends _ _ (c .before .loop .inv) (search needs)
+
+pub bin-line-spec : {M : Type 1} → statement M
+bin-line-spec =
+    tie.close
+    (tie.spec
+    Inv-loop
+    μ-loop
+    loop-holds
+    mul-x
+    shared-slice-read-x
+    cast-bins
+    shr-bins
+    mul-bins
+    slice-write-bins
+    add-i
+    loop-less
+    loop-again
+    same-length
+    returns)

@@ -1,0 +1,31 @@
+-- `profile::bins::bin_of` meets its contract: an empty bin has no squares. Assumes nothing.
+use mathlib.Core.Path.{_≡_, sym, _∙_}
+use borrow.Author.Needs.{needs}
+use Rattle.profile.specs.Parts.{lineCount, lineSquares}
+use Rattle.profile.proofs.Kept.{empty-bin}
+use Rattle.profile.proofs.bins.bin_of.Statement.{statement}
+use Rattle.profile.proofs.bins.bin_of.Tie as tie
+
+bin-count-requires : tie.Need-bin-count-requires
+bin-count-requires c κs = search needs
+
+returns : tie.Need-returns
+returns c =
+    let e = sym (c .if1 .taken) ∙ c .before .bin-count .ensures in
+    (e, sym (empty-bin (c .before .before .before .args .j) (c .before .before .before .pre .0) (sym e)))
+
+cast-t7 : tie.Need-cast-t7
+cast-t7 c = search needs
+
+bin-squares-requires : tie.Need-bin-squares-requires
+bin-squares-requires c κs = search needs
+
+same-length : tie.Need-same-length
+same-length c = search needs
+
+returns-2 : tie.Need-returns-2
+returns-2 c = (c .before .before .before .before .bin-count .ensures, c .before .bin-squares .ensures)
+
+pub bin-of-spec : {M : Type 1} → statement M
+bin-of-spec =
+    tie.close (tie.spec bin-count-requires returns cast-t7 bin-squares-requires same-length returns-2)

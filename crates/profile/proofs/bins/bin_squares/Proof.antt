@@ -1,0 +1,27 @@
+-- `profile::bins::bin_squares` meets its contract: the squares of the line that keeps bin j. Assumes nothing.
+use mathlib.Core.Path.{_≡_, sym, _∙_}
+use mathlib.Core.Bool.{cond}
+use Prim.Native.Nat.{ℕ, _≤_, _<_}
+use native.Mathlib.Omega.{arith}
+use borrow.Author.Needs.{needs}
+use lib.ListN.{length}
+use Rattle.profile.specs.Sums.{sumN}
+use Rattle.profile.specs.Parts.{lineSquares}
+use Rattle.profile.proofs.Kept.{kept-line-small, kept-squares}
+use Rattle.profile.proofs.bins.bin_squares.Statement.{statement}
+use Rattle.profile.proofs.bins.bin_squares.Tie as tie
+
+kept-line-requires : tie.Need-kept-line-requires
+kept-line-requires c κs = search needs
+
+line-squares-requires : tie.Need-line-squares-requires
+line-squares-requires c κs = let S = c .before .before .before .before .before in kept-line-small (S .args .j) (S .pre .0) _ (S .pre .1) (c .before .before .kept-line .ensures)
+
+same-length : tie.Need-same-length
+same-length c = search needs
+
+returns : tie.Need-returns
+returns c = let S = c .before .before .before .before .before .before in c .line-squares .ensures ∙ kept-squares (S .args .j) (S .pre .0) _ (S .pre .1) (c .before .before .before .kept-line .ensures)
+
+pub bin-squares-spec : {M : Type 1} → statement M
+bin-squares-spec = tie.close (tie.spec kept-line-requires line-squares-requires same-length returns)

@@ -1,0 +1,35 @@
+-- `profile::estimate::luma_profile` meets its contract: the figures of the plane's profile. Assumes nothing.
+use mathlib.Core.Path.{_≡_, refl}
+use borrow.Author.Needs.{needs}
+use Rattle.profile.specs.Answers.{lumaOf}
+use Rattle.profile.proofs.estimate.luma_profile.Statement.{statement}
+use Rattle.profile.proofs.estimate.luma_profile.Tie as tie
+
+slice-aggregate-plane-profile : tie.Need-slice-aggregate-plane-profile
+slice-aggregate-plane-profile c = search needs
+
+slice-aggregate-plane-profile-2 : tie.Need-slice-aggregate-plane-profile-2
+slice-aggregate-plane-profile-2 c = search needs
+
+slice-aggregate-plane-profile-3 : tie.Need-slice-aggregate-plane-profile-3
+slice-aggregate-plane-profile-3 c = search needs
+
+plane-profile-requires : tie.Need-plane-profile-requires
+plane-profile-requires c κs = search needs
+
+returns : tie.Need-returns
+returns c =
+    let E = c .before .before .before .plane-profile .ensures in (
+      E .0,
+      λ t i. lumaOf (record { sigma16 = E .1 t .plane-is i; binSigma = E .1 t .sigma-is i; count = E .1 t .count-is i; squares = E .1 t .squares-is i }),
+    )
+
+pub luma-profile-spec : {M : Type 1} → statement M
+luma-profile-spec =
+    tie.close
+    (tie.spec
+    slice-aggregate-plane-profile
+    slice-aggregate-plane-profile-2
+    slice-aggregate-plane-profile-3
+    plane-profile-requires
+    returns)

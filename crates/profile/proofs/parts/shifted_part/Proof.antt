@@ -1,0 +1,68 @@
+-- `profile::parts::shifted_part` meets its contract: where the samples are low, the noise is taken and then shifted. Assumes nothing.
+use mathlib.Core.Path.{_≡_, refl, sym, _∙_}
+use mathlib.Core.Bool.{true, false, _&&_, false≢true}
+use Prim.Native.Nat.{ℕ, _-_}
+use borrow.Author.Needs.{needs}
+use Rattle.profile.specs.Parts.{bothLow}
+use Rattle.profile.proofs.Lows.{Low, is-low, places, shift-line}
+use Rattle.profile.proofs.parts.shifted_part.Statement.{statement}
+use Rattle.profile.proofs.parts.shifted_part.Tie as tie
+
+-- the test
+tested : (c : tie.After-samples-low2) → let A = c .before .before .before .before .args in
+    (c .before .samples-low .result && c .samples-low2 .result) ≡ bothLow (A .depth) (A .src .now) (A .den .now)
+tested c = λ i. c .before .samples-low .ensures i && c .samples-low2 .ensures i
+
+lows : (c : tie.Then1) → let A = c .before .before .before .before .before .args in Low (A .depth) (A .src .now) (A .den .now)
+lows c = is-low _ _ _ (sym (tested (c .before)) ∙ c .if1 .taken)
+
+samples-low-requires : tie.Need-samples-low-requires
+samples-low-requires c κs = search needs
+
+samples-low-requires-2 : tie.Need-samples-low-requires-2
+samples-low-requires-2 c κs = search needs
+
+noise-line-requires : tie.Need-noise-line-requires
+noise-line-requires c κs = let S = c .before .before .before .before .before .before in places (S .pre .0) (lows (c .before)) _ (S .pre .1)
+
+sub-shifted-line : tie.Need-sub-shifted-line
+sub-shifted-line c = search needs
+
+cast-shifted-line : tie.Need-cast-shifted-line
+cast-shifted-line c = search needs
+
+shifted-line-requires : tie.Need-shifted-line-requires
+shifted-line-requires c κs = search needs
+
+same-length : tie.Need-same-length
+same-length c = search needs
+
+same-length-2 : tie.Need-same-length-2
+same-length-2 c = search needs
+
+returns : tie.Need-returns
+returns c =
+    let S = c .before .before .before .before .before .before .before .before .before .before .before .before in
+    let A = S .args in
+    let T = c .before .before .before .before .before .before .before in (
+      sym (T .if1 .taken) ∙ tested (T .before),
+      λ e. shift-line (A .src .now) (A .den .now) (A .depth - 8) _ _ (S .pre .1) (S .pre .2) (c .before .before .before .before .before .noise-line .ensures) (c .before .shifted-line .ensures),
+    )
+
+returns-2 : tie.Need-returns-2
+returns-2 c = (sym (c .if1 .left) ∙ tested (c .before), λ e. absurd (false≢true e))
+
+pub shifted-part-spec : {M : Type 1} → statement M
+shifted-part-spec =
+    tie.close
+    (tie.spec
+    samples-low-requires
+    samples-low-requires-2
+    noise-line-requires
+    sub-shifted-line
+    cast-shifted-line
+    shifted-line-requires
+    same-length
+    same-length-2
+    returns
+    returns-2)

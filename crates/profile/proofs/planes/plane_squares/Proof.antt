@@ -1,0 +1,128 @@
+-- `profile::planes::plane_squares` meets its contract: the parts passed are low, and the sum is that of their squares. Assumes nothing.
+use mathlib.Core.Path.{_≡_, refl, sym, ap, _∙_}
+use mathlib.Core.Bool.{true, false, false≢true}
+use Prim.Native.Nat.{ℕ, _+_, _-_, _*_, _^_, _≤_, _<_}
+use native.Mathlib.Omega.{arith}
+use borrow.Author.Needs.{needs}
+use borrow.Author.Tests.{not-true, not-false}
+use lib.ListN.{length, getD}
+use Rattle.profile.specs.Sums.{sumN}
+use Rattle.profile.specs.Shifted.{square}
+use Rattle.profile.proofs.Sums.{sum-bound}
+use Rattle.profile.proofs.Lows.{is-low}
+use Rattle.profile.proofs.PlaneParts.{LowTo, low-none, low-more, low-all, not-low, part-pair, part-more, square-part, square-small}
+use Rattle.profile.proofs.StepSums.{plane-sum}
+use Rattle.profile.proofs.planes.plane_squares.Statement.{statement}
+use Rattle.profile.proofs.planes.plane_squares.Tie as tie
+
+abbrev Inv-loop : tie.InvT-loop
+Inv-loop src den depth n sum₀ from₀ sum from =
+    (n ≡ length src) × (from ≤ n) × LowTo depth src den from × (sum ≡ sumN (square (depth - 8) src den) from)
+
+abbrev μ-loop : tie.MeasureT-loop
+μ-loop src den depth n sum₀ from₀ sum from = n - from
+
+loop-holds : tie.Need-loop-holds Inv-loop μ-loop
+unfolding sumN
+loop-holds c = (refl, omega arith, low-none _ _ _, refl)
+
+sub-part-size : tie.Need-sub-part-size Inv-loop μ-loop
+sub-part-size c = search needs
+
+part-size-requires : tie.Need-part-size-requires Inv-loop μ-loop
+part-size-requires c κs = search needs
+
+-- the next part
+inside : (c : tie.After-part-size Inv-loop μ-loop) → c .before .before .loop .from + c .part-size .result ≤ length (c .before .before .before .before .before .args .src .now)
+inside c = omega arith
+
+add-to : tie.Need-add-to Inv-loop μ-loop
+add-to c = search needs
+
+mul-part-squares : tie.Need-mul-part-squares Inv-loop μ-loop
+mul-part-squares c = search needs
+
+sub-part-squares : tie.Need-sub-part-squares Inv-loop μ-loop
+sub-part-squares c = search needs
+
+part-part-squares-start : tie.Need-part-part-squares-start Inv-loop μ-loop
+part-part-squares-start c = search needs
+
+part-part-squares-end : tie.Need-part-part-squares-end Inv-loop μ-loop
+part-part-squares-end c = search needs
+
+mul-part-squares-2 : tie.Need-mul-part-squares-2 Inv-loop μ-loop
+mul-part-squares-2 c = search needs
+
+sub-part-squares-2 : tie.Need-sub-part-squares-2 Inv-loop μ-loop
+sub-part-squares-2 c = search needs
+
+part-part-squares-start-2 : tie.Need-part-part-squares-start-2 Inv-loop μ-loop
+part-part-squares-start-2 c = search needs
+
+part-part-squares-end-2 : tie.Need-part-part-squares-end-2 Inv-loop μ-loop
+part-part-squares-end-2 c = search needs
+
+part-squares-requires : tie.Need-part-squares-requires Inv-loop μ-loop
+part-squares-requires c κs = part-pair (c .before .before .before .before .before .before .before .pre) (c .before .before .before .before .loop .from) (c .before .before .part-size .result) (inside (c .before .before)) (omega arith)
+
+returns : tie.Need-returns Inv-loop μ-loop
+returns c =
+    (sym (not-low (c .before .before .before .before .before .before .before .before .before .before .pre) (c .before .before .before .before .before .before .before .loop .from) (c .before .before .before .before .before .part-size .result) (inside (c .before .before .before .before .before)) (sym (c .before .before .part-squares .ensures .0) ∙ not-true _ (c .if1 .taken))), λ e. absurd (false≢true e))
+
+-- the samples passed with the part, and the sum
+low : (c : tie.After-struct-known2 Inv-loop μ-loop) → let A = c .before .before .before .before .before .before .before .before .before .before .before .args in LowTo (A .depth) (A .src .now) (A .den .now) (c .before .before .before .before .before .before .before .before .loop .from + c .before .before .before .before .before .before .part-size .result)
+low c =
+    low-more (c .before .before .before .before .before .before .before .before .before .before .before .pre) (c .before .before .before .before .before .before .before .before .loop .from) (c .before .before .before .before .before .before .part-size .result) (inside (c .before .before .before .before .before .before)) (c .before .before .before .before .before .before .before .before .loop .inv .2)
+    (is-low _ _ _ (sym (c .before .before .before .part-squares .ensures .0) ∙ not-false _ (c .before .if1 .left)))
+
+more : (c : tie.After-struct-known2 Inv-loop μ-loop) → let A = c .before .before .before .before .before .before .before .before .before .before .before .args in
+    c .before .before .before .before .before .before .before .before .loop .sum + c .before .before .before .part-squares .result .sum ≡ sumN (square (A .depth - 8) (A .src .now) (A .den .now)) (c .before .before .before .before .before .before .before .before .loop .from + c .before .before .before .before .before .before .part-size .result)
+more c =
+    let S = c .before .before .before .before .before .before .before .before .before .before .before in
+    let from = c .before .before .before .before .before .before .before .before .loop .from in
+    let m = c .before .before .before .before .before .before .part-size .result in
+    (λ i. c .before .before .before .before .before .before .before .before .loop .inv .3 i + c .before .before .before .part-squares .ensures .1 (not-false _ (c .before .if1 .left)) i)
+    ∙ part-more (S .pre) from m (inside (c .before .before .before .before .before .before)) _ _ (square-part (S .pre) from m (inside (c .before .before .before .before .before .before)) (S .args .depth - 8))
+
+add-sum : tie.Need-add-sum Inv-loop μ-loop
+add-sum c =
+    rw (more c) (record { fits = omega (arith, c .before .before .before .before .before .before .before .before .before .before .before .pre .few, inside (c .before .before .before .before .before .before), sum-bound 65536 _ _ (square-small (c .before .before .before .before .before .before .before .before .before .before .before .pre) (low c))) })
+
+loop-less : tie.Need-loop-less Inv-loop μ-loop
+loop-less c = search needs
+
+loop-again : tie.Need-loop-again Inv-loop μ-loop
+loop-again c = (refl, inside (c .before .before .before .before .before .before), low c, more c)
+
+returns-2 : tie.Need-returns-2 Inv-loop μ-loop
+returns-2 c =
+    let S = c .before .before .before .before in
+    let H = c .before .loop in
+    let e : H .from ≡ length (S .args .src .now) = omega arith in
+    (sym (low-all (S .pre) (rw e at (H .inv .2))), λ t. rw e at (H .inv .3) ∙ sym (plane-sum _ _ _))
+
+pub plane-squares-spec : {M : Type 1} → statement M
+plane-squares-spec =
+    tie.close
+    (tie.spec
+    Inv-loop
+    μ-loop
+    loop-holds
+    sub-part-size
+    part-size-requires
+    add-to
+    mul-part-squares
+    sub-part-squares
+    part-part-squares-start
+    part-part-squares-end
+    mul-part-squares-2
+    sub-part-squares-2
+    part-part-squares-start-2
+    part-part-squares-end-2
+    part-squares-requires
+    returns
+    add-sum
+    loop-less
+    loop-again
+    returns-2)

@@ -1,0 +1,75 @@
+-- `profile::profiles::fill_sigma16` meets its contract: the bins passed have their sigma16. Assumes nothing.
+use mathlib.Core.Path.{_≡_}
+use Prim.Native.Nat.{ℕ, _-_, _≤_, _<_}
+use native.Mathlib.Omega.{arith}
+use borrow.Author.Needs.{needs}
+use lib.ListN.{length, getD, length-set}
+use Rattle.noise.proofs.Fill.{Filled, fill-starts, fill-turn, fill-ends}
+use Rattle.profile.specs.Steps.{binSigma16}
+use Rattle.profile.proofs.profiles.fill_sigma16.Statement.{statement}
+use Rattle.profile.proofs.profiles.fill_sigma16.Tie as tie
+
+abbrev Inv-loop : tie.InvT-loop
+Inv-loop enough plane count squares sigma₀ j₀ sigma j = Filled (λ k. binSigma16 enough plane (getD squares k 0) (getD count k 0)) sigma₀ sigma j
+
+abbrev μ-loop : tie.MeasureT-loop
+μ-loop enough plane count squares sigma₀ j₀ sigma j = length sigma - j
+
+loop-holds : tie.Need-loop-holds Inv-loop μ-loop
+loop-holds c = fill-starts _ _
+
+mul-bin-sigma16 : tie.Need-mul-bin-sigma16 Inv-loop μ-loop
+mul-bin-sigma16 c = search needs
+
+shared-slice-read-bin-sigma16 : tie.Need-shared-slice-read-bin-sigma16 Inv-loop μ-loop
+shared-slice-read-bin-sigma16 c = search needs
+
+mul-bin-sigma16-2 : tie.Need-mul-bin-sigma16-2 Inv-loop μ-loop
+mul-bin-sigma16-2 c = search needs
+
+shared-slice-read-bin-sigma16-2 : tie.Need-shared-slice-read-bin-sigma16-2 Inv-loop μ-loop
+shared-slice-read-bin-sigma16-2 c = search needs
+
+bin-sigma16-requires : tie.Need-bin-sigma16-requires Inv-loop μ-loop
+bin-sigma16-requires c κs = search needs
+
+mul-sigma : tie.Need-mul-sigma Inv-loop μ-loop
+mul-sigma c = search needs
+
+slice-write-sigma : tie.Need-slice-write-sigma Inv-loop μ-loop
+slice-write-sigma c = search needs
+
+add-j : tie.Need-add-j Inv-loop μ-loop
+add-j c = search needs
+
+loop-less : tie.Need-loop-less Inv-loop μ-loop
+loop-less c = simp length-set (omega arith)
+
+loop-again : tie.Need-loop-again Inv-loop μ-loop
+loop-again c = fill-turn _ _ _ (c .before .before .before .before .loop .inv) (search needs) (c .bin-sigma16 .ensures)
+
+same-length : tie.Need-same-length Inv-loop μ-loop
+same-length c = search needs
+
+returns : tie.Need-returns Inv-loop μ-loop
+returns c = fill-ends _ _ (c .before .loop .inv) (search needs)
+
+pub fill-sigma16-spec : {M : Type 1} → statement M
+fill-sigma16-spec =
+    tie.close
+    (tie.spec
+    Inv-loop
+    μ-loop
+    loop-holds
+    mul-bin-sigma16
+    shared-slice-read-bin-sigma16
+    mul-bin-sigma16-2
+    shared-slice-read-bin-sigma16-2
+    bin-sigma16-requires
+    mul-sigma
+    slice-write-sigma
+    add-j
+    loop-less
+    loop-again
+    same-length
+    returns)

@@ -1,0 +1,65 @@
+-- `profile::profiles::sum_of` meets its contract: the sum of the numbers passed, which is no more than that of all. Assumes nothing.
+use mathlib.Core.Path.{_≡_, refl, sym, ap, _∙_}
+use Prim.Native.Nat.{ℕ, _+_, _-_, _≤_, _<_}
+use native.Mathlib.Omega.{arith}
+use borrow.Author.Needs.{needs}
+use lib.ListN.{length, getD}
+use Rattle.profile.specs.Sums.{sumN, sumOf}
+use Rattle.profile.proofs.Sums.{sum-more, sum-mono}
+use Rattle.profile.proofs.profiles.sum_of.Statement.{statement}
+use Rattle.profile.proofs.profiles.sum_of.Tie as tie
+
+abbrev Inv-loop : tie.InvT-loop
+Inv-loop xs sum₀ i₀ sum i = (i ≤ length xs) × (sum ≡ sumN (λ k. getD xs k 0) i)
+
+abbrev μ-loop : tie.MeasureT-loop
+μ-loop xs sum₀ i₀ sum i = length xs - i
+
+loop-holds : tie.Need-loop-holds Inv-loop μ-loop
+unfolding sumN
+loop-holds c = (omega arith, refl)
+
+mul-sum : tie.Need-mul-sum Inv-loop μ-loop
+mul-sum c = search needs
+
+shared-slice-read-sum : tie.Need-shared-slice-read-sum Inv-loop μ-loop
+shared-slice-read-sum c = search needs
+
+more : (c : tie.After-shared-slice-known Inv-loop μ-loop) → let xs = c .before .before .before .args .xs .now in
+    c .before .before .loop .sum + getD xs (c .before .before .loop .i) 0 ≡ sumN (λ k. getD xs k 0) (c .before .before .loop .i + 1)
+more c = ap (λ (s : ℕ). s + getD (c .before .before .before .args .xs .now) (c .before .before .loop .i) 0) (c .before .before .loop .inv .1) ∙ sym (sum-more _ _)
+
+add-sum : tie.Need-add-sum Inv-loop μ-loop
+unfolding sumOf
+add-sum c =
+    let xs = c .before .before .before .args .xs .now in
+    let l : c .before .before .loop .i + 1 ≤ length xs = omega arith in
+    rw (more c) (record { fits = omega (arith, c .before .before .before .pre, sum-mono (λ k. getD xs k 0) (c .before .before .loop .i + 1) (length xs) l) })
+
+add-i : tie.Need-add-i Inv-loop μ-loop
+add-i c = search needs
+
+loop-less : tie.Need-loop-less Inv-loop μ-loop
+loop-less c = search needs
+
+loop-again : tie.Need-loop-again Inv-loop μ-loop
+loop-again c = (omega arith, more c)
+
+returns : tie.Need-returns Inv-loop μ-loop
+unfolding sumOf
+returns c = let e : c .before .loop .i ≡ length (c .before .before .args .xs .now) = omega arith in rw e at (c .before .loop .inv .1)
+
+pub sum-of-spec : {M : Type 1} → statement M
+sum-of-spec =
+    tie.close
+    (tie.spec
+    Inv-loop
+    μ-loop
+    loop-holds
+    mul-sum
+    shared-slice-read-sum
+    add-sum
+    add-i
+    loop-less
+    loop-again
+    returns)

@@ -1,0 +1,54 @@
+-- The answers of `plane_sigma16` and `noise_estimate`: "A refused call returns its number, with every other field of the answer zero".
+use mathlib.Core.List.{List}
+use Prim.Native.Nat.{ℕ, _-_}
+use lib.ListN.{replicate}
+use Rattle.frame.specs.Questions.{accepted}
+use Rattle.frame.specs.Calls.{deepPlaneRefusal, frameRefusal}
+use Rattle.frame.specs.declared.Shape.{Shape}
+use Rattle.profile.specs.Steps.{Profile, planeSigma16, profile}
+use Rattle.profile.specs.declared.Sigma.{Sigma}
+use Rattle.profile.specs.declared.LumaProfile.{LumaProfile}
+use Rattle.profile.specs.declared.ChromaProfile.{ChromaProfile}
+use Rattle.profile.specs.declared.NoiseEstimate.{NoiseEstimate}
+
+unfoldable pub sigmaAnswer : ℕ → ℕ → ℕ → List ℕ → List ℕ → Sigma
+unfolding deepPlaneRefusal planeSigma16
+sigmaAnswer width height depth source denoised =
+    let r = deepPlaneRefusal width height depth source denoised in
+    record { refusal = r; sigma16 = accepted r (planeSigma16 (depth - 8) source denoised) 0 }
+
+-- ---- noise_estimate
+
+abbrev pub lumaOf : Profile → LumaProfile
+lumaOf p =
+    record { sigma16 = p .sigma16; «bin_sigma16» = p .binSigma; «bin_count» = p .count; «bin_squares» = p .squares }
+
+abbrev pub chromaOf : Profile → ChromaProfile
+chromaOf p =
+    record { sigma16 = p .sigma16; «bin_sigma16» = p .binSigma; «bin_count» = p .count; «bin_squares» = p .squares }
+
+-- n bins with nothing in them
+abbrev pub noProfile : ℕ → Profile
+noProfile n = record { sigma16 = 0; binSigma = replicate n 0; count = replicate n 0; squares = replicate n 0 }
+
+-- "Luma .. eight bins. Chroma .. four bins.", 64 and 32 in a bin at least; the shift is depth − 8
+abbrev pub lumaProfile : ℕ → List ℕ → List ℕ → LumaProfile
+lumaProfile depth source denoised = lumaOf (profile 3 64 (depth - 8) source denoised)
+
+abbrev pub chromaProfile : ℕ → List ℕ → List ℕ → ChromaProfile
+chromaProfile depth source denoised = chromaOf (profile 2 32 (depth - 8) source denoised)
+
+-- a refused call's
+abbrev pub noEstimate : ℕ → NoiseEstimate
+noEstimate n = record { refusal = n; luma = lumaOf (noProfile 8); cb = chromaOf (noProfile 4); cr = chromaOf (noProfile 4) }
+
+unfoldable pub estimateAnswer : Shape → List ℕ → List ℕ → List ℕ → List ℕ → List ℕ → List ℕ → NoiseEstimate
+unfolding frameRefusal profile
+estimateAnswer s y cb cr y′ cb′ cr′ =
+    let r = frameRefusal s y cb cr y′ cb′ cr′ in
+    record {
+      refusal = r;
+      luma = accepted r (lumaProfile (s .depth) y y′) (lumaOf (noProfile 8));
+      cb = accepted r (chromaProfile (s .depth) cb cb′) (chromaOf (noProfile 4));
+      cr = accepted r (chromaProfile (s .depth) cr cr′) (chromaOf (noProfile 4));
+    }

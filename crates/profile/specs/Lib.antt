@@ -1,0 +1,6 @@
+pub mod Sums
+pub mod Shifted
+pub mod Bins
+pub mod Steps
+pub mod Parts
+pub mod Answers

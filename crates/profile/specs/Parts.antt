@@ -1,0 +1,69 @@
+-- What the functions over a part of a plane ask and promise. A part is a run of samples of a plane, with the same places of its denoised copy.
+use mathlib.Core.Path.{_≡_}
+use mathlib.Core.Bool.{Bool, _&&_}
+use mathlib.Core.List.{List}
+use Prim.Native.Nat.{ℕ, _+_, _-_, _^_, _≤_, _<_}
+use lib.Dec.{eqb}
+use lib.IntN.{ℤ, pos, natAbs}
+use lib.ListN.{length, getD, replicate}
+use Rattle.laws.specs.Table.{tabulate}
+use Rattle.frame.specs.Questions.{low}
+use Rattle.noise.specs.Lines.{at}
+use Rattle.profile.specs.Sums.{sumN}
+use Rattle.profile.specs.Shifted.{shiftedNoise, squareOf, square}
+use Rattle.profile.specs.Steps.{Profile}
+use Rattle.profile.specs.Bins.{binAt, inBin, binCount, binSquares}
+
+-- two lists of one length, at most `most`, and a depth
+pub record Pair (most depth : ℕ) (source denoised : List ℕ) : Type 0 where
+  pub same : length source ≡ length denoised
+  pub few : length source ≤ most
+  pub deep : 8 ≤ depth
+  pub shallow : depth ≤ 12
+
+-- question 6, of both
+abbrev pub bothLow : ℕ → List ℕ → List ℕ → Bool
+bothLow depth source denoised = low depth source && low depth denoised
+
+-- a part's line of small numbers; and with the bin of each
+pub record Small (line : List ℤ) : Type 0 where
+  pub few : length line ≤ 256
+  pub small : (i : ℕ) → i < length line → natAbs (at line i) ≤ 256
+
+pub record Binned (line : List ℤ) (bins : List ℕ) : Type 0 where
+  pub same : length line ≡ length bins
+  pub line-small : Small line
+
+-- over the places of bin j: how many, and the squares of the line
+unfoldable pub lineCount : List ℕ → ℕ → ℕ
+unfolding sumN
+lineCount bins j = sumN (inBin (λ i. getD bins i 0) j (λ i. 1)) (length bins)
+
+unfoldable pub lineSquares : List ℤ → List ℕ → ℕ → ℕ
+unfolding sumN
+lineSquares line bins j = sumN (inBin (λ i. getD bins i 0) j (λ i. squareOf (at line i))) (length bins)
+
+-- tables of one length, with room for a part more
+pub record Tables (bits : ℕ) (count squares : List ℕ) : Type 0 where
+  pub narrow : bits ≤ 8
+  pub counts : length count ≡ 2 ^ bits
+  pub sums : length squares ≡ 2 ^ bits
+  pub count-room : (j : ℕ) → j < 2 ^ bits → getD count j 0 ≤ 2 ^ 32
+  pub squares-room : (j : ℕ) → j < 2 ^ bits → getD squares j 0 ≤ 2 ^ 48
+
+-- each entry of a table, increased
+abbrev pub increased : List ℕ → ℕ → (ℕ → ℕ) → List ℕ
+increased table n f = tabulate n (λ j. getD table j 0 + f j)
+
+-- tables of 2 ^ bits zeros
+pub record Blank (bits : ℕ) (count squares : List ℕ) : Type 0 where
+  pub narrow : bits ≤ 8
+  pub counts : count ≡ replicate (2 ^ bits) 0
+  pub sums : squares ≡ replicate (2 ^ bits) 0
+
+-- these are the figures of a profile
+pub record Profiled (p : Profile) (plane : ℕ) (sigma count squares : List ℕ) : Type 0 where
+  pub plane-is : plane ≡ p .sigma16
+  pub sigma-is : sigma ≡ p .binSigma
+  pub count-is : count ≡ p .count
+  pub squares-is : squares ≡ p .squares

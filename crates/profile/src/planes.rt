@@ -1,0 +1,55 @@
+// A plane, part by part.
+use crate::Sigma;
+use crate::parts::Squares;
+use crate::parts::part_size;
+use crate::parts::part_squares;
+ghost use mathlib.Core.Path.{_≡_};
+ghost use mathlib.Core.Bool.{true};
+ghost use Prim.Native.Nat.{_-_, _^_};
+ghost use Rattle.profile.specs.Steps.{planeSquares};
+ghost use Rattle.profile.specs.Answers.{sigmaAnswer};
+ghost use Rattle.profile.specs.Parts.{Pair, bothLow};
+
+// Of a plane: its parts are asked and summed in turn, and the first whose samples are not low ends it.
+fn plane_squares(src: &[u16], den: &[u16], depth: u8) -> Squares
+    requires { ⌜ Pair (2 ^ 24) depth (now src) (now den) ⌝ }
+    ensures { λ r. ⌜ (r .low ≡ bothLow depth (now (src .entry)) (now (den .entry))) × (r .low ≡ true → r .sum ≡ planeSquares (depth - 8) (now (src .entry)) (now (den .entry))) ⌝ }
+{
+    let n = src.len();
+    let mut sum = 0u64;
+    let mut from = 0usize;
+    while from < n {
+        let to = from + part_size(n - from);
+        let part = part_squares(&src[from..to], &den[from..to], depth);
+        if !part.low {
+            return Squares { low: false, sum: 0 };
+        }
+        sum = sum + part.sum;
+        from = to;
+    }
+    Squares { low: true, sum }
+}
+
+// round(16 × root(sum of d² / count)), d the noise shifted right by depth − 8; 0 for an empty plane.
+pub fn plane_sigma16(src: &[u16], den: &[u16], width: usize, height: usize, depth: u8) -> Sigma
+    ensures { λ r. ⌜ r ≡ sigmaAnswer width height depth (now (src .entry)) (now (den .entry)) ⌝ }
+{
+    let refusal = frame::deep_plane_refusal(width, height, depth, src.len(), den.len());
+    if refusal != 0 {
+        return Sigma {
+            refusal,
+            sigma16: 0,
+        };
+    }
+    let squares = plane_squares(src, den, depth);
+    if !squares.low {
+        return Sigma {
+            refusal: 6,
+            sigma16: 0,
+        };
+    }
+    Sigma {
+        refusal: 0,
+        sigma16: float::sigma16(squares.sum, src.len() as u64),
+    }
+}
