@@ -3,3 +3,5 @@ pub mod Accepted
 pub mod Rows
 pub mod Findings
 pub mod Answers
+pub mod Yes
+pub mod PlusZero

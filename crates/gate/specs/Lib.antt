@@ -1,3 +1,4 @@
 pub mod RowCorrelation
 pub mod Tests
 pub mod Answers
+pub mod Passes

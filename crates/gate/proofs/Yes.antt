@@ -1,0 +1,54 @@
+-- A gate says yes exactly if every test passes: test by test along the definition. Assumes nothing.
+use mathlib.Core.Path.{_≡_, refl, sym, _∙_}
+use mathlib.Core.Bool.{Bool, true, false, cond, false≢true}
+use Prim.Native.Nat.{ℕ, _*_}
+use lib.Dec.{ltb, eqb}
+use lib.Ieee.{binary64, div, mul, le, lt}
+use borrow.Author.Tests.{le-ltb, ltb-false, ne-eqb, eqb-false}
+use Rattle.laws.specs.Scaled.{plusZero}
+use Rattle.float.specs.Magnitude.{magnitudeOf}
+use Rattle.float.specs.Root.{root}
+use Rattle.noise.specs.Products.{Pair}
+use Rattle.noise.specs.Steps.{dotF}
+use Rattle.gate.specs.RowCorrelation.{rowCorrelation}
+use Rattle.gate.specs.Tests.{rowBound, timeBound, temporal, lumaRow, lumaFinding, chromaFinding, isPassed}
+use Rattle.gate.specs.Passes.{LumaPasses, ChromaPasses}
+use Rattle.gate.specs.declared.tests.Finding.{Finding}
+use Rattle.gate.specs.declared.tests.Finding.the-variants.{LowSigma, EmptyPlane, NoEnergyFirst, RowCorrelated, NoEnergySecond, TimeCorrelated, Passed}
+
+-- a test that ends with a no is not met, and what follows says yes
+after : (b : Bool) (end rest : Finding) → isPassed end ≡ false → isPassed (cond b end rest) ≡ true → (b ≡ false) × (isPassed rest ≡ true)
+after true end rest n e = absurd (false≢true (sym n ∙ e))
+after false end rest n e = (refl, e)
+
+last : (b : Bool) → isPassed (cond b Passed TimeCorrelated) ≡ true → b ≡ true
+last true e = refl
+last false e = absurd (false≢true e)
+
+module _ (sigma16 : ℕ) (p q : Pair) where
+  pub luma-yes : isPassed (lumaFinding sigma16 p q) ≡ true → LumaPasses sigma16 p q
+  unfolding lumaFinding temporal
+  luma-yes e =
+      let a = after (ltb sigma16 16) LowSigma _ refl e in
+      let b = after (le (dotF p p) plusZero) NoEnergyFirst _ refl (a .1) in
+      let c = after (le rowBound (magnitudeOf (lumaRow p))) RowCorrelated _ refl (b .1) in
+      let d = after (le (dotF q q) plusZero) NoEnergySecond _ refl (c .1) in
+      record { sigma = ltb-false sigma16 16 (a .0); first = b .0; row = c .0; second = d .0; time = last _ (d .1) }
+
+  pub luma-passes : LumaPasses sigma16 p q → isPassed (lumaFinding sigma16 p q) ≡ true
+  unfolding lumaFinding temporal
+  luma-passes t = rw (le-ltb sigma16 16 (t .sigma), t .first, t .row, t .second, t .time)
+
+  pub chroma-yes : isPassed (chromaFinding sigma16 p q) ≡ true → ChromaPasses sigma16 p q
+  unfolding chromaFinding temporal
+  chroma-yes e =
+      let a = after (ltb sigma16 8) LowSigma _ refl e in
+      let n = after (eqb (p .width * p .height) 0) EmptyPlane _ refl (a .1) in
+      let c = after (le rowBound (magnitudeOf (rowCorrelation p 1))) RowCorrelated _ refl (n .1) in
+      let b = after (le (dotF p p) plusZero) NoEnergyFirst _ refl (c .1) in
+      let d = after (le (dotF q q) plusZero) NoEnergySecond _ refl (b .1) in
+      record { sigma = ltb-false sigma16 8 (a .0); filled = eqb-false (p .width * p .height) 0 (n .0); row = c .0; first = b .0; second = d .0; time = last _ (d .1) }
+
+  pub chroma-passes : ChromaPasses sigma16 p q → isPassed (chromaFinding sigma16 p q) ≡ true
+  unfolding chromaFinding temporal
+  chroma-passes t = rw (le-ltb sigma16 8 (t .sigma), ne-eqb (p .width * p .height) 0 (t .filled), t .row, t .first, t .second, t .time)
