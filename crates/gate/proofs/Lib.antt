@@ -5,3 +5,4 @@ pub mod Findings
 pub mod Answers
 pub mod Yes
 pub mod PlusZero
+pub mod Cases

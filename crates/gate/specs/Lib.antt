@@ -2,3 +2,4 @@ pub mod RowCorrelation
 pub mod Tests
 pub mod Answers
 pub mod Passes
+pub mod Cases
