@@ -2,7 +2,7 @@
 use mathlib.Core.Path.{_≡_, sym, _∙_}
 use mathlib.Core.List.{List}
 use Prim.Native.Nat.{ℕ}
-use lib.IntN.{ℤ, pos}
+use lib.IntN.{pos}
 use Rattle.frame.specs.Size.{chromaWidth, chromaHeight}
 use Rattle.frame.specs.Calls.{frameRefusal}
 use Rattle.frame.specs.declared.Shape.{Shape}

@@ -1,5 +1,5 @@
 -- "Chroma correlation, 4:2:0, width 3, height 1, luma noise 0,4,8, Cb noise 1,1: averages 2 and 8, result 9."
-use mathlib.Core.List.{List, [], _∷_, map}
+use mathlib.Core.List.{List, [], _∷_}
 use Prim.Native.Nat.{ℕ, _*_}
 use lib.IntN.{ℤ, pos}
 use lib.ListN.{replicate}

@@ -17,7 +17,6 @@ use Rattle.gate.specs.Tests.{lumaFinding, chromaFinding, isPassed}
 use Rattle.gate.proofs.Accepted.{first-plane}
 use Rattle.gate.specs.declared.tests.Finding.{Finding}
 use Rattle.gate.specs.declared.Gate.{Gate}
-use Rattle.gate.specs.declared.Rho.{Rho}
 use Rattle.gate.specs.declared.Rho.the-variants.{Refused, Value}
 
 rho-refused : (n : ℕ) (x : Float) → (n ≡ 0 → ⊥) → Refused n ≡ rho n x

@@ -6,3 +6,6 @@ pub mod Answers
 pub mod Yes
 pub mod PlusZero
 pub mod Cases
+pub mod Energy
+pub mod Within
+pub mod RowWithin

@@ -1,20 +1,19 @@
 -- "Plus zero if lag is 0, width is at most lag, height is 0 or the energy is 0": each is one of the definition's tests; an energy of 0 is plus zero by demand 3. Assumes nothing.
-use mathlib.Core.Path.{_≡_, refl, sym, _∙_, ap}
+use mathlib.Core.Path.{_≡_, refl, _∙_, ap}
 use mathlib.Core.Bool.{Bool, true, false, cond, _||_}
 use mathlib.Core.List.{List}
 use Prim.Native.Nat.{ℕ, _≤_}
 use lib.Dec.{eqb, leb}
-use lib.IntN.{ℤ, pos}
-use lib.Ieee.{Float, binary64, div, le, ofBits}
+use lib.IntN.{pos}
+use lib.Ieee.{Float, le, ofBits}
 use borrow.Author.Tests.{le-leb, eq-eqb}
 use Rattle.laws.specs.Scaled.{plusZero, ofScaled}
-use Rattle.laws.proofs.Scaled.{scaled-int, scaled-zero}
+use Rattle.laws.proofs.Scaled.{scaled-zero}
 use Rattle.noise.specs.Lines.{Plane}
 use Rattle.noise.specs.Products.{Pair}
-use Rattle.noise.specs.Steps.{dotF, lagF}
-use Rattle.noise.proofs.Steps.{laggedSum, dot-window}
+use Rattle.noise.proofs.Steps.{laggedSum}
 use Rattle.gate.specs.RowCorrelation.{pair, energyF, rowCorrelation}
-use Rattle.gate.proofs.PlaneSums.{dot-is}
+use Rattle.gate.proofs.PlaneSums.{energy-is}
 
 any : (b : Bool) → (b || true) ≡ true
 any true = refl
@@ -43,7 +42,5 @@ module _ (p : Pair) (lag : ℕ) where
 
 -- the exact energy of a plane is 0
 pub energy-zero : (w h lag : ℕ) (s d : List ℕ) → w ≤ 4096 → h ≤ 4096 → Plane w h s d → laggedSum (pair s d w h) (pair s d w h) 0 ≡ pos 0 → rowCorrelation (pair s d w h) lag ≡ plusZero
-unfolding energyF
 energy-zero w h lag s d narrow short P z =
-    let p = pair s d w h in
-    still p lag (sym (dot-window p p refl refl) ∙ sym (dot-is w h narrow short s d s d (pos 0) P P (sym z)) ∙ sym (scaled-int (pos 0)) ∙ scaled-zero 0)
+    still (pair s d w h) lag (energy-is w h narrow short s d P ∙ ap (ofScaled 0) z ∙ scaled-zero 0)

@@ -3,15 +3,14 @@ use mathlib.Core.Path.{_≡_, refl, sym, _∙_}
 use mathlib.Core.Bool.{Bool, true, false, cond, false≢true}
 use Prim.Native.Nat.{ℕ, _*_}
 use lib.Dec.{ltb, eqb}
-use lib.Ieee.{binary64, div, mul, le, lt}
+use lib.Ieee.{le}
 use borrow.Author.Tests.{le-ltb, ltb-false, ne-eqb, eqb-false}
 use Rattle.laws.specs.Scaled.{plusZero}
 use Rattle.float.specs.Magnitude.{magnitudeOf}
-use Rattle.float.specs.Root.{root}
 use Rattle.noise.specs.Products.{Pair}
 use Rattle.noise.specs.Steps.{dotF}
 use Rattle.gate.specs.RowCorrelation.{rowCorrelation}
-use Rattle.gate.specs.Tests.{rowBound, timeBound, temporal, lumaRow, lumaFinding, chromaFinding, isPassed}
+use Rattle.gate.specs.Tests.{rowBound, temporal, lumaRow, lumaFinding, chromaFinding, isPassed}
 use Rattle.gate.specs.Passes.{LumaPasses, ChromaPasses}
 use Rattle.gate.specs.declared.tests.Finding.{Finding}
 use Rattle.gate.specs.declared.tests.Finding.the-variants.{LowSigma, EmptyPlane, NoEnergyFirst, RowCorrelated, NoEnergySecond, TimeCorrelated, Passed}

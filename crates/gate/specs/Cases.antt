@@ -1,7 +1,7 @@
 -- "Luma gate, width 4, height 1, 8 bits: noise 1,1,1,1 gives no (3/4). Noise 1,1,1,−1 then 1,−1,1,1: yes.
 -- Width 10, height 1: noise 1,1,−1,−1,1,1,−1,−1,1,1, second frame with 3 signs turned: 4/10, no; with 4 turned: yes."
 use mathlib.Core.List.{List, [], _∷_, map}
-use Prim.Native.Nat.{ℕ, zero, suc}
+use Prim.Native.Nat.{ℕ, suc}
 use lib.IntN.{ℤ, pos, negsuc}
 use lib.ListN.{length}
 use lib.Ieee.{Float, fin}
