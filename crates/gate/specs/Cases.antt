@@ -32,11 +32,11 @@ pub record Frames : Type 0 where
   pub second : List ℤ
 
 -- 1 and −1
-abbrev a : ℤ
-a = pos 1
+abbrev plus : ℤ
+plus = pos 1
 
-abbrev b : ℤ
-b = negsuc 0
+abbrev minus : ℤ
+minus = negsuc 0
 
 abbrev pub lumaFound : Frames → Finding
 lumaFound f = lumaFinding (planeSigma16 0 (map source (f .first)) (map denoised (f .first))) (row (f .first)) (row (f .second))
@@ -46,14 +46,14 @@ abbrev pub chromaFound : Frames → Finding
 chromaFound f = chromaFinding (planeSigma16 0 (map source (f .first)) (map denoised (f .first))) (row (f .first)) (row (f .second))
 
 abbrev ten : List ℤ
-ten = a ∷ a ∷ b ∷ b ∷ a ∷ a ∷ b ∷ b ∷ a ∷ a ∷ []
+ten = plus ∷ plus ∷ minus ∷ minus ∷ plus ∷ plus ∷ minus ∷ minus ∷ plus ∷ plus ∷ []
 
 abbrev pub cases : List (Case Frames Finding)
 cases =
-    record { input = record { first = a ∷ a ∷ a ∷ a ∷ []; second = a ∷ a ∷ a ∷ a ∷ [] }; stated = RowCorrelated } ∷
-    record { input = record { first = a ∷ a ∷ a ∷ b ∷ []; second = a ∷ b ∷ a ∷ a ∷ [] }; stated = Passed } ∷
-    record { input = record { first = ten; second = b ∷ b ∷ a ∷ b ∷ a ∷ a ∷ b ∷ b ∷ a ∷ a ∷ [] }; stated = TimeCorrelated } ∷
-    record { input = record { first = ten; second = b ∷ b ∷ a ∷ a ∷ a ∷ a ∷ b ∷ b ∷ a ∷ a ∷ [] }; stated = Passed } ∷ []
+    record { input = record { first = plus ∷ plus ∷ plus ∷ plus ∷ []; second = plus ∷ plus ∷ plus ∷ plus ∷ [] }; stated = RowCorrelated } ∷
+    record { input = record { first = plus ∷ plus ∷ plus ∷ minus ∷ []; second = plus ∷ minus ∷ plus ∷ plus ∷ [] }; stated = Passed } ∷
+    record { input = record { first = ten; second = minus ∷ minus ∷ plus ∷ minus ∷ plus ∷ plus ∷ minus ∷ minus ∷ plus ∷ plus ∷ [] }; stated = TimeCorrelated } ∷
+    record { input = record { first = ten; second = minus ∷ minus ∷ plus ∷ plus ∷ plus ∷ plus ∷ minus ∷ minus ∷ plus ∷ plus ∷ [] }; stated = Passed } ∷ []
 
 -- the row correlation at lag 1: 3/4, 1/4, and a plane that is as wide as the lag
 abbrev pub rowFound : List ℤ → Float
@@ -61,6 +61,6 @@ rowFound noise = rowCorrelation (row noise) 1
 
 abbrev pub rowCases : List (Case (List ℤ) Float)
 rowCases =
-    record { input = a ∷ a ∷ a ∷ a ∷ []; stated = fin false 3 (negsuc 1) } ∷
-    record { input = a ∷ a ∷ a ∷ b ∷ []; stated = fin false 1 (negsuc 1) } ∷
-    record { input = a ∷ []; stated = fin false 0 (pos 0) } ∷ []
+    record { input = plus ∷ plus ∷ plus ∷ plus ∷ []; stated = fin false 3 (negsuc 1) } ∷
+    record { input = plus ∷ plus ∷ plus ∷ minus ∷ []; stated = fin false 1 (negsuc 1) } ∷
+    record { input = plus ∷ []; stated = fin false 0 (pos 0) } ∷ []
