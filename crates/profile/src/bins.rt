@@ -112,7 +112,7 @@ fn add_bins(
     count: &mut [u64],
     squares: &mut [u64],
 )
-    requires { ⌜ Binned (now line) (now bins) × (length (now own) ≡ length (now bins)) × Tables bits (now count) (now squares) ⌝ }
+    requires { ⌜ Binned (now line) (now bins) × (length (now own) ≡ length (now bins)) × Tables bits (now count) (now squares) (lineCount (now bins)) (lineSquares (now line) (now bins)) ⌝ }
     ensures { λ _. ⌜ (now (count .exit) ≡ increased (now (count .entry)) (2 ^ bits) (lineCount (now (bins .entry)))) × (now (squares .exit) ≡ increased (now (squares .entry)) (2 ^ bits) (lineSquares (now (line .entry)) (now (bins .entry)))) ⌝ }
 {
     let mut j = 0usize;
@@ -136,7 +136,7 @@ fn add_in(
     count: &mut [u64],
     squares: &mut [u64],
 ) -> bool
-    requires { ⌜ Pair 256 depth (now src) (now den) × (length (now noise) ≡ length (now src)) × (length (now line) ≡ length (now src)) × (length (now bins) ≡ length (now src)) × Tables bits (now count) (now squares) ⌝ }
+    requires { ⌜ Pair 256 depth (now src) (now den) × (length (now noise) ≡ length (now src)) × (length (now line) ≡ length (now src)) × (length (now bins) ≡ length (now src)) × (bothLow depth (now src) (now den) ≡ true → Tables bits (now count) (now squares) (binCount bits (depth - 8) (now src)) (binSquares bits (depth - 8) (now src) (now den))) ⌝ }
     ensures { λ r. ⌜ (r ≡ bothLow depth (now (src .entry)) (now (den .entry))) × (r ≡ true → (now (count .exit) ≡ increased (now (count .entry)) (2 ^ bits) (binCount bits (depth - 8) (now (src .entry)))) × (now (squares .exit) ≡ increased (now (squares .entry)) (2 ^ bits) (binSquares bits (depth - 8) (now (src .entry)) (now (den .entry))))) ⌝ }
 {
     if shifted_part(src, den, depth, noise, line) {
@@ -156,7 +156,7 @@ pub fn add_part(
     count: &mut [u64],
     squares: &mut [u64],
 ) -> bool
-    requires { ⌜ Pair 256 depth (now src) (now den) × Tables bits (now count) (now squares) ⌝ }
+    requires { ⌜ Pair 256 depth (now src) (now den) × (bothLow depth (now src) (now den) ≡ true → Tables bits (now count) (now squares) (binCount bits (depth - 8) (now src)) (binSquares bits (depth - 8) (now src) (now den))) ⌝ }
     ensures { λ r. ⌜ (r ≡ bothLow depth (now (src .entry)) (now (den .entry))) × (r ≡ true → (now (count .exit) ≡ increased (now (count .entry)) (2 ^ bits) (binCount bits (depth - 8) (now (src .entry)))) × (now (squares .exit) ≡ increased (now (squares .entry)) (2 ^ bits) (binSquares bits (depth - 8) (now (src .entry)) (now (den .entry))))) ⌝ }
 {
     let mut noise = blank_line();

@@ -7,7 +7,7 @@ ghost use Prim.Native.Nat.{_-_, _^_, _<_};
 ghost use lib.ListN.{length, getD};
 ghost use Rattle.laws.specs.Table.{tabulate};
 ghost use Rattle.profile.specs.Sums.{sumOf};
-ghost use Rattle.profile.specs.Steps.{totals, profile, leastCount, binSigma16};
+ghost use Rattle.profile.specs.Steps.{totals, profile, leastCount, sigmaOfBin};
 ghost use Rattle.profile.specs.Parts.{Pair, Blank, bothLow, Profiled};
 
 // Whether the samples of a plane are low, and where they are, its sigma16.
@@ -64,7 +64,7 @@ fn least_count(least: u64, n: u64) -> u64
 
 // A bin's own sigma16 where enough samples are in it, else the plane's.
 fn bin_sigma16(enough: u64, plane: u64, squares: u64, count: u64) -> u64
-    ensures { λ r. ⌜ r ≡ binSigma16 enough plane squares count ⌝ }
+    ensures { λ r. ⌜ r ≡ sigmaOfBin enough plane squares count ⌝ }
 {
     if count >= enough {
         float::sigma16(squares, count)
@@ -76,7 +76,7 @@ fn bin_sigma16(enough: u64, plane: u64, squares: u64, count: u64) -> u64
 // The same for every bin.
 fn fill_sigma16(enough: u64, plane: u64, count: &[u64], squares: &[u64], sigma: &mut [u64])
     requires { ⌜ (length (now count) ≡ length (now sigma)) × (length (now squares) ≡ length (now sigma)) ⌝ }
-    ensures { λ _. ⌜ now (sigma .exit) ≡ tabulate (length (now (sigma .entry))) (λ j. binSigma16 enough plane (getD (now (squares .entry)) j 0) (getD (now (count .entry)) j 0)) ⌝ }
+    ensures { λ _. ⌜ now (sigma .exit) ≡ tabulate (length (now (sigma .entry))) (λ j. sigmaOfBin enough plane (getD (now (squares .entry)) j 0) (getD (now (count .entry)) j 0)) ⌝ }
 {
     let mut j = 0usize;
     while j < sigma.len() {
