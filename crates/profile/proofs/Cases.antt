@@ -11,7 +11,7 @@ use Rattle.profile.specs.Answers.{sigmaAnswer}
 use Rattle.profile.specs.Cases.{sigma, sigmaCases, bin, binCases, least, leastCases}
 
 pub sigma-cases-right : Right sigma sigmaCases
-unfolding sigmaAnswer deepPlaneRefusal deepPlaneQuestions each low allLow planeSigma16 planeSquares shifted sigma16Of mul div ofInt ofBits toUnsigned
+unfolding sigmaAnswer deepPlaneRefusal deepPlaneQuestions each low allLow planeSigma16 planeSquares sigma16Of mul div ofInt ofBits toUnsigned
 sigma-cases-right = (refl, (refl, (refl, (refl, (refl, (refl, (refl, tt)))))))
 
 pub bin-cases-right : Right bin binCases
