@@ -5,13 +5,12 @@ use Rattle.laws.specs.Cases.{Right}
 use Rattle.frame.specs.Questions.{each, low, allLow}
 use Rattle.frame.specs.Calls.{deepPlaneQuestions, deepPlaneRefusal}
 use Rattle.float.specs.Steps.{sigma16Of}
-use Rattle.noise.specs.Shift.{shifted}
 use Rattle.profile.specs.Steps.{planeSquares, planeSigma16}
 use Rattle.profile.specs.Answers.{sigmaAnswer}
 use Rattle.profile.specs.Cases.{sigma, sigmaCases, bin, binCases, least, leastCases}
 
 pub sigma-cases-right : Right sigma sigmaCases
-unfolding sigmaAnswer deepPlaneRefusal deepPlaneQuestions each low allLow planeSigma16 planeSquares shifted sigma16Of mul div ofInt ofBits toUnsigned
+unfolding sigmaAnswer deepPlaneRefusal deepPlaneQuestions each low allLow planeSigma16 planeSquares sigma16Of mul div ofInt ofBits toUnsigned
 sigma-cases-right = (refl, (refl, (refl, (refl, (refl, (refl, (refl, tt)))))))
 
 pub bin-cases-right : Right bin binCases
