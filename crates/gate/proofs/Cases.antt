@@ -2,6 +2,9 @@
 use mathlib.Core.Path.{refl}
 use lib.Ieee.{add, sub, mul, div, le, lt, ofInt, ofBits, toUnsigned}
 use Rattle.laws.specs.Cases.{Right}
+use Rattle.frame.specs.Size.{chromaWidth, chromaHeight}
+use Rattle.frame.specs.Questions.{each, low, allLow}
+use Rattle.frame.specs.Calls.{shapeQuestions, lumaQuestions, chromaQuestions, lumaGateRefusal, chromaGateRefusal}
 use Rattle.float.specs.Magnitude.{magnitudeOf}
 use Rattle.float.specs.Root.{root}
 use Rattle.float.specs.Steps.{sigma16Of}
@@ -16,9 +19,9 @@ unfolding rowCorrelation energyF windowF lagF add sub mul div le ofInt ofBits
 row-cases-right = (refl, (refl, (refl, tt)))
 
 pub luma-cases-right : Right lumaFound cases
-unfolding lumaFinding temporal lumaRow magnitudeOf root planeSigma16 planeSquares sigma16Of windowF dotF add sub mul div le lt ofInt ofBits toUnsigned
+unfolding lumaGateRefusal lumaQuestions shapeQuestions each low allLow lumaFinding temporal lumaRow magnitudeOf root planeSigma16 planeSquares sigma16Of windowF dotF add sub mul div le lt ofInt ofBits toUnsigned
 luma-cases-right = (refl, (refl, (refl, (refl, tt))))
 
 pub chroma-cases-right : Right chromaFound cases
-unfolding chromaFinding temporal rowCorrelation energyF lagF magnitudeOf root planeSigma16 planeSquares sigma16Of windowF dotF add sub mul div le lt ofInt ofBits toUnsigned
+unfolding chromaGateRefusal chromaQuestions shapeQuestions chromaWidth chromaHeight each low allLow chromaFinding temporal rowCorrelation energyF lagF magnitudeOf root planeSigma16 planeSquares sigma16Of windowF dotF add sub mul div le lt ofInt ofBits toUnsigned
 chroma-cases-right = (refl, (refl, (refl, (refl, tt))))

@@ -7,6 +7,8 @@ use lib.ListN.{length}
 use lib.Ieee.{Float, fin}
 use mathlib.Core.Bool.{false}
 use Rattle.laws.specs.Cases.{Case}
+use Rattle.frame.specs.Calls.{lumaGateRefusal, chromaGateRefusal}
+use Rattle.frame.specs.declared.Shape.{Shape}
 use Rattle.noise.specs.Products.{Pair}
 use Rattle.profile.specs.Steps.{planeSigma16}
 use Rattle.gate.specs.RowCorrelation.{pair, rowCorrelation}
@@ -23,9 +25,12 @@ abbrev denoised : ℤ → ℕ
 denoised (pos n) = 0
 denoised (negsuc n) = suc n
 
--- a plane of one row
+-- planes of one row
+abbrev height : ℕ
+height = 1
+
 abbrev row : List ℤ → Pair
-row noise = pair (map source noise) (map denoised noise) (length noise) 1
+row noise = pair (map source noise) (map denoised noise) (length noise) height
 
 pub record Frames : Type 0 where
   pub first : List ℤ
@@ -38,22 +43,36 @@ plus = pos 1
 abbrev minus : ℤ
 minus = negsuc 0
 
-abbrev pub lumaFound : Frames → Finding
-lumaFound f = lumaFinding (planeSigma16 0 (map source (f .first)) (map denoised (f .first))) (row (f .first)) (row (f .second))
+-- 8 bits, 4:4:4
+abbrev shape : Frames → Shape
+shape f = record { width = length (f .first); height = height; depth = 8; format = 3 }
+
+abbrev sigma16 : Frames → ℕ
+sigma16 f = planeSigma16 0 (row (f .first) .source) (row (f .first) .denoised)
+
+-- the number of the questions, and what is found
+abbrev pub lumaFound : Frames → ℕ × Finding
+lumaFound f =
+    let p = row (f .first) in
+    let q = row (f .second) in
+    (lumaGateRefusal (shape f) (p .source) (p .denoised) (q .source) (q .denoised), lumaFinding (sigma16 f) p q)
 
 -- handed luma's sigma16
-abbrev pub chromaFound : Frames → Finding
-chromaFound f = chromaFinding (planeSigma16 0 (map source (f .first)) (map denoised (f .first))) (row (f .first)) (row (f .second))
+abbrev pub chromaFound : Frames → ℕ × Finding
+chromaFound f =
+    let p = row (f .first) in
+    let q = row (f .second) in
+    (chromaGateRefusal (shape f) (p .source) (p .denoised) (q .source) (q .denoised), chromaFinding (sigma16 f) p q)
 
 abbrev ten : List ℤ
 ten = plus ∷ plus ∷ minus ∷ minus ∷ plus ∷ plus ∷ minus ∷ minus ∷ plus ∷ plus ∷ []
 
-abbrev pub cases : List (Case Frames Finding)
+abbrev pub cases : List (Case Frames (ℕ × Finding))
 cases =
-    record { input = record { first = plus ∷ plus ∷ plus ∷ plus ∷ []; second = plus ∷ plus ∷ plus ∷ plus ∷ [] }; stated = RowCorrelated } ∷
-    record { input = record { first = plus ∷ plus ∷ plus ∷ minus ∷ []; second = plus ∷ minus ∷ plus ∷ plus ∷ [] }; stated = Passed } ∷
-    record { input = record { first = ten; second = minus ∷ minus ∷ plus ∷ minus ∷ plus ∷ plus ∷ minus ∷ minus ∷ plus ∷ plus ∷ [] }; stated = TimeCorrelated } ∷
-    record { input = record { first = ten; second = minus ∷ minus ∷ plus ∷ plus ∷ plus ∷ plus ∷ minus ∷ minus ∷ plus ∷ plus ∷ [] }; stated = Passed } ∷ []
+    record { input = record { first = plus ∷ plus ∷ plus ∷ plus ∷ []; second = plus ∷ plus ∷ plus ∷ plus ∷ [] }; stated = (0, RowCorrelated) } ∷
+    record { input = record { first = plus ∷ plus ∷ plus ∷ minus ∷ []; second = plus ∷ minus ∷ plus ∷ plus ∷ [] }; stated = (0, Passed) } ∷
+    record { input = record { first = ten; second = minus ∷ minus ∷ plus ∷ minus ∷ plus ∷ plus ∷ minus ∷ minus ∷ plus ∷ plus ∷ [] }; stated = (0, TimeCorrelated) } ∷
+    record { input = record { first = ten; second = minus ∷ minus ∷ plus ∷ plus ∷ plus ∷ plus ∷ minus ∷ minus ∷ plus ∷ plus ∷ [] }; stated = (0, Passed) } ∷ []
 
 -- the row correlation at lag 1: 3/4, 1/4, and a plane that is as wide as the lag
 abbrev pub rowFound : List ℤ → Float

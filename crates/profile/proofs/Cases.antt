@@ -5,7 +5,6 @@ use Rattle.laws.specs.Cases.{Right}
 use Rattle.frame.specs.Questions.{each, low, allLow}
 use Rattle.frame.specs.Calls.{deepPlaneQuestions, deepPlaneRefusal}
 use Rattle.float.specs.Steps.{sigma16Of}
-use Rattle.noise.specs.Shift.{shifted}
 use Rattle.profile.specs.Steps.{planeSquares, planeSigma16}
 use Rattle.profile.specs.Answers.{sigmaAnswer}
 use Rattle.profile.specs.Cases.{sigma, sigmaCases, bin, binCases, least, leastCases}
