@@ -1,3 +1,5 @@
 pub mod Averages
 pub mod Taps
 pub mod Answers
+pub mod OnlyCr
+pub mod Cases

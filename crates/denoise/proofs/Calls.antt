@@ -1,14 +1,13 @@
 -- The outcome of a call whose answer is known: refused, the destinations are as they were; accepted, they are denoised. Assumes nothing.
-use mathlib.Core.Path.{_≡_, refl, sym, _∙_}
+use mathlib.Core.Path.{_≡_}
 use mathlib.Core.List.{List}
 use Prim.Native.Nat.{ℕ}
 use lib.ListN.{length}
 use Rattle.frame.specs.declared.Shape.{Shape}
-use Rattle.frame.specs.Questions.{accepted}
 use Rattle.frame.specs.Calls.{planeRefusal, denoiseFrameRefusal}
-use Rattle.frame.proofs.Refusal.{refused, granted}
+use Rattle.frame.proofs.Refusal.{refused}
 use Rattle.denoise.specs.Denoise.{denoised}
-use Rattle.denoise.specs.Calls.{planeOutcome, Planes, planes, denoisedFrame, frameOutcome}
+use Rattle.denoise.specs.Calls.{planeOutcome, Planes, denoisedFrame, frameOutcome}
 
 module _ (s d : List ℕ) (w h n : ℕ) (e : n ≡ planeRefusal w h (length s) (length d)) where
   pub plane-refused : (n ≡ 0 → ⊥) → _≡_ {A = ℕ × List ℕ} (n, d) (planeOutcome s d w h)

@@ -1,9 +1,9 @@
 -- The denoised plane's length, and its entry at a row and a column. Assumes nothing.
 use mathlib.Core.Path.{_≡_, _∙_}
 use mathlib.Core.List.{List}
-use Prim.Native.Nat.{ℕ, _+_, _*_, _/_, _%_, _<_}
+use Prim.Native.Nat.{ℕ, _+_, _*_, _<_}
 use native.Mathlib.Omega.{arith}
-use lib.ListN.{length, getD}
+use lib.ListN.{length}
 use lib.Arith.{digits-div, digits-mod}
 use Rattle.laws.proofs.Table.{length-tabulate, getD-tabulate}
 use Rattle.denoise.specs.Denoise.{sampleAt, smoothed, denoised}

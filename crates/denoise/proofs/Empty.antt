@@ -1,6 +1,6 @@
 -- "Width or height 0 with empty planes is accepted and writes nothing." Assumes nothing.
-use mathlib.Core.Path.{_≡_, refl}
-use mathlib.Core.List.{List, []}
+use mathlib.Core.Path.{_≡_}
+use mathlib.Core.List.{[]}
 use Prim.Native.Nat.{ℕ, _*_, _≤_}
 use borrow.Author.Tests.{le-leb}
 use Rattle.frame.specs.Questions.{sideLimit, each}

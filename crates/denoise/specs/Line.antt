@@ -1,12 +1,14 @@
--- The form that the code works in: 1 2 1 down the columns of three rows, then 1 2 1 along the line of those sums.
+-- The form that the code works in: 1 2 1 down the columns of three rows, then 1 2 1 along the line of those sums. That it gives `smoothed` is `means-smooth`.
 use mathlib.Core.List.{List}
 use Prim.Native.Nat.{ℕ, _+_, _-_, _*_, _/_, min}
 use lib.ListN.{getD, take, drop}
 use Rattle.laws.specs.Table.{tabulate}
 
+-- three numbers, weighed 1 2 1
 abbrev pub weigh : ℕ → ℕ → ℕ → ℕ
 weigh a b c = a + 2 * b + c
 
+-- a sixteenth, rounded
 abbrev pub mean : ℕ → ℕ
 mean sum = (sum + 8) / 16
 

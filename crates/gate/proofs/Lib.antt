@@ -3,3 +3,9 @@ pub mod Accepted
 pub mod Rows
 pub mod Findings
 pub mod Answers
+pub mod Yes
+pub mod PlusZero
+pub mod Cases
+pub mod Energy
+pub mod Within
+pub mod RowWithin

@@ -1,3 +1,5 @@
 pub mod RowCorrelation
 pub mod Tests
 pub mod Answers
+pub mod Passes
+pub mod Cases

@@ -5,7 +5,7 @@ mod tests;
 
 use frame::Shape;
 ghost use mathlib.Core.Path.{_≡_};
-ghost use Rattle.gate.specs.Answers.{rhoAnswer, chromaAnswer};
+ghost use Rattle.gate.specs.Answers.{rhoAnswer, lumaAnswer, chromaAnswer};
 
 // What the row correlation answers: the number of a refusal, or an f64 from -1 to 1.
 pub enum Rho {
@@ -35,6 +35,25 @@ pub fn lag_h_rho(
         return Rho::Refused(n);
     }
     Rho::Value(correlations::row_correlation(src, den, width, height, lag))
+}
+
+// Whether the luma of two frames carries grain: the tests of the luma gate, in their order.
+pub fn film_grain_probe(s: Shape, y0: &[u16], d0: &[u16], y1: &[u16], d1: &[u16]) -> Gate
+    ensures { λ r. ⌜ r ≡ lumaAnswer s (now (y0 .entry)) (now (d0 .entry)) (now (y1 .entry)) (now (d1 .entry)) ⌝ }
+{
+    let n = frame::luma_gate_call(s, y0, d0, y1, d1);
+    if n != 0 {
+        return Gate {
+            refusal: n,
+            yes: false,
+        };
+    }
+    let first = profile::plane_sigma16(y0, d0, s.width, s.height, s.depth);
+    let found = tests::luma_finding(first.sigma16, y0, d0, y1, d1, s.width, s.height);
+    Gate {
+        refusal: 0,
+        yes: tests::is_passed(found),
+    }
 }
 
 // Whether one chroma component of two frames carries grain: the tests of the chroma gate, in their order.

@@ -1,5 +1,5 @@
 -- Sums over a fit's window: how large they are, the sample as its own last neighbour, two factors exchanged, and the window as rows lag to h and columns lag to w - lag. Assumes nothing.
-use mathlib.Core.Path.{_≡_, ap, _∙_}
+use mathlib.Core.Path.{_≡_, refl, ap, _∙_}
 use mathlib.Core.List.{List}
 use Prim.Native.Nat.{ℕ, _+_, _-_, _*_, _/_, _%_, _^_, _≤_, _<_}
 use native.Mathlib.Nat.{le-trans, lt-of-lt-of-le, mul-le-mul, div-lt-iff-lt-mul, mod-lt}
@@ -44,6 +44,17 @@ pub window-rows : (w h lag : ℕ) (f g : Picture) → windowSum w h lag f g ≡ 
 unfolding windowSum
 window-rows w h lag f g = let e : w - 2 * lag ≡ w - lag - lag = omega arith in ap (λ (n : ℕ). span (λ y. span (λ x. f y x *ℤ g y x) lag n) lag (h - lag)) e
 
+-- pictures that are the same where the window is
+pub window-ext : (w h lag : ℕ) (f f′ g g′ : Picture)
+    → ((y x : ℕ) → lag ≤ y → lag ≤ x → f y x ≡ f′ y x) → ((y x : ℕ) → lag ≤ y → lag ≤ x → g y x ≡ g′ y x)
+    → windowSum w h lag f g ≡ windowSum w h lag f′ g′
+unfolding windowSum
+window-ext w h lag f f′ g g′ p q =
+    sum-ext _ _ (h - lag) (λ y l. sum-ext _ _ (w - 2 * lag) (λ x k t. p (lag + y) (lag + x) (from y) (from x) t *ℤ q (lag + y) (lag + x) (from y) (from x) t))
+  where
+    from : (z : ℕ) → lag ≤ lag + z
+    from z = omega arith
+
 -- the sample itself
 pub sample-last : (f : Picture) (lag y x : ℕ) → lag ≤ y → lag ≤ x → neighbour f lag (neighbours lag) y x ≡ f y x
 sample-last f lag y x h k =
@@ -52,6 +63,9 @@ sample-last f lag y x h k =
     let r : y - lag + lag ≡ y = omega arith in
     let c : x - lag + lag ≡ x = omega arith in
     ap (λ (i : ℕ). neighbour f lag i y x) e ∙ (λ t. f (y - lag + digits-div lag l t) (x - lag + digits-mod lag l t)) ∙ (λ t. f (r t) (c t))
+
+pub entry-sample : (f : Picture) (w h lag i : ℕ) → entry f w h lag i (neighbours lag) ≡ windowSum w h lag (neighbour f lag i) f
+entry-sample f w h lag i = window-ext w h lag _ _ _ _ (λ y x a b. refl) (λ y x a b. sample-last f lag y x a b)
 
 -- a neighbour of a place of the window lies in the plane
 module _ {w h lag : ℕ} (W : Window w h lag) (i : ℕ) (li : i < factors lag) (y x : ℕ) (above : lag ≤ y) (below : y < h) (left : lag ≤ x) (right : x < w - lag) where

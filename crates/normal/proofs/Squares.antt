@@ -11,6 +11,8 @@ use lib.ListN.{length, getD, take, set, length-set}
 use lib.Seq.{getD-take}
 use Rattle.laws.specs.Table.{tabulate}
 use Rattle.laws.proofs.Table.{getD-tabulate, tabulate-same, tabulate-more, tabulate-at, tabulate-whole}
+use Rattle.noise.specs.Lines.{at}
+use Rattle.noise.proofs.LineSums.{entry}
 use Rattle.normal.specs.Normal.{square}
 
 -- the end of a row is the next row's start
@@ -56,6 +58,10 @@ module _ (n z : ℕ) (h : z < n * n) where
 -- equal entries
 pub square-ext : (n : ℕ) (f g : ℕ → ℕ → ℤ) → ((a b : ℕ) → a < n → b < n → f a b ≡ g a b) → square n f ≡ square n g
 square-ext n f g h = tabulate-same (n * n) (λ z. f (z / n) (z % n)) (λ z. g (z / n) (z % n)) (λ z l. h (z / n) (z % n) (quotient n z l) (remainder n z l))
+
+-- an entry of a square
+pub square-entry : (n : ℕ) (f : ℕ → ℕ → ℤ) {table : List ℤ} → table ≡ square n f → (i j : ℕ) → i < n → j < n → at table (i * n + j) ≡ f i j
+square-entry n f e i j h k = entry (n * n) _ e (i * n + j) (digits-lt h k) ∙ (λ t. f (digits-div i k t) (digits-mod i k t))
 
 -- ---- filled up to row a and column b
 pub record Square (f : ℕ → ℕ → ℤ) (n : ℕ) (table : List ℤ) (a b : ℕ) : Type 0 where

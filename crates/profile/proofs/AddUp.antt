@@ -1,15 +1,14 @@
 -- "Bin counts add up to the plane's samples and bin squares to its squares.": for any number of bins and any samples. One law, over what is summed. Assumes nothing.
-use mathlib.Core.Path.{_≡_, refl, sym, ap, _∙_}
+use mathlib.Core.Path.{_≡_, sym, ap, _∙_}
 use mathlib.Core.List.{List}
 use Prim.Native.Nat.{ℕ, _^_, _<_}
 use lib.ListN.{length, getD}
-use Rattle.laws.specs.Table.{tabulate}
 use Rattle.laws.proofs.Table.{length-tabulate, getD-tabulate}
 use Rattle.float.specs.Steps.{sigma16Of}
 use Rattle.profile.specs.Sums.{sumN, sumOf}
 use Rattle.profile.specs.Shifted.{square}
 use Rattle.profile.specs.Bins.{binAt, inBin}
-use Rattle.profile.specs.Steps.{planeSquares, planeSigma16, Totals, totals, profile}
+use Rattle.profile.specs.Steps.{planeSquares, planeSigma16, totals, profile}
 use Rattle.profile.proofs.Sums.{sum-ext, sum-ones}
 use Rattle.profile.proofs.Binning.{bins-add-up}
 use Rattle.profile.proofs.StepSums.{plane-sum, bin-lt, binned, totals-are}

@@ -1,12 +1,12 @@
 -- An answer, refused or accepted, is the definition's. Assumes nothing.
-use mathlib.Core.Path.{_≡_, refl, sym, ap, _∙_}
+use mathlib.Core.Path.{_≡_, sym, _∙_}
 use mathlib.Core.List.{List}
 use Prim.Native.Nat.{ℕ, _-_}
 use Rattle.frame.specs.declared.Shape.{Shape}
 use Rattle.frame.specs.Questions.{accepted}
 use Rattle.frame.specs.Calls.{deepPlaneRefusal, frameRefusal}
 use Rattle.frame.proofs.Refusal.{refused, granted}
-use Rattle.profile.specs.Steps.{planeSigma16, profile}
+use Rattle.profile.specs.Steps.{planeSigma16}
 use Rattle.profile.specs.Answers.{sigmaAnswer, lumaOf, chromaOf, noProfile, lumaProfile, chromaProfile, noEstimate, estimateAnswer}
 use Rattle.profile.specs.declared.Sigma.{Sigma}
 use Rattle.profile.specs.declared.LumaProfile.{LumaProfile}

@@ -6,7 +6,7 @@ use Prim.Native.Nat.{ℕ, _*_, _^_, _≤_}
 use native.Mathlib.Nat.{le-trans, le-of-eq}
 use lib.ListN.{length}
 use Rattle.frame.specs.declared.Shape.{Shape}
-use Rattle.frame.specs.Questions.{Question, firstNo, accepted, samplesLow, frameFilled, each, allLow, low, lumaSamples, chromaSamples, sideLimit}
+use Rattle.frame.specs.Questions.{Question, firstNo, samplesLow, frameFilled, each, allLow, low, lumaSamples, chromaSamples, sideLimit}
 use Rattle.frame.specs.Calls.{deepPlaneQuestions, deepPlaneRefusal, shapeQuestions, frameQuestions, copyQuestions, frameRefusal}
 use Rattle.frame.proofs.Refusal.{numbered, passed, parts, first-no-append, stopped}
 use Rattle.frame.proofs.Facts.{is-small, is-depth, is-known, are-each, Known}

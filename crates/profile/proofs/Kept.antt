@@ -2,7 +2,7 @@
 use mathlib.Core.Path.{_≡_, refl, sym, ap, _∙_}
 use mathlib.Core.Bool.{Bool, true, false, cond}
 use mathlib.Core.List.{List}
-use Prim.Native.Nat.{ℕ, _+_, _*_, _≤_, _<_, zero-le}
+use Prim.Native.Nat.{ℕ, _*_, _≤_, _<_, zero-le}
 use native.Mathlib.Nat.{le-trans, le-of-eq, lt-of-lt-of-le}
 use native.Mathlib.Omega.{arith}
 use lib.Dec.{eqb}
@@ -16,7 +16,7 @@ use Rattle.profile.specs.Bins.{inBin}
 use Rattle.profile.specs.Parts.{Small, Binned, lineCount, lineSquares}
 use Rattle.profile.proofs.Sums.{sum-ext}
 use Rattle.profile.proofs.Squares.{square-le, line-small, line-sum}
-use Rattle.profile.proofs.Binning.{bin-le, count-le}
+use Rattle.profile.proofs.Binning.{bin-le}
 
 keep-small : (t : Bool) (d : ℤ) → natAbs d ≤ 256 → natAbs (cond t d (pos 0)) ≤ 256
 keep-small true d h = h
@@ -48,14 +48,10 @@ module _ {line : List ℤ} {bins : List ℕ} (j : ℕ) (B : Binned line bins) wh
         ∙ sum-ext (λ i. squareOf (kept i)) (inBin (λ i. getD bins i 0) j (λ i. squareOf (at line i))) (length bins) (λ i l. keep-square (eqb (getD bins i 0) j) (at line i))
 
   -- at most 65536 to a place
-  pub squares-by-count : lineSquares line bins j ≤ 65536 * lineCount bins j
+  squares-by-count : lineSquares line bins j ≤ 65536 * lineCount bins j
   unfolding lineSquares lineCount
   squares-by-count =
       bin-le (λ i. getD bins i 0) (λ i. squareOf (at line i)) (length bins) j 65536 (λ i l. square-le (at line i) (small i l))
-
-  pub count-few : lineCount bins j ≤ 256
-  unfolding lineCount
-  count-few = omega (arith, B .same, B .line-small .few, count-le (λ i. getD bins i 0) (length bins) j)
 
   pub empty-bin : lineCount bins j ≡ 0 → lineSquares line bins j ≡ 0
   empty-bin e = omega (arith, squares-by-count)

@@ -12,4 +12,7 @@ pub mod PlaneParts
 pub mod PartTables
 pub mod AddUp
 pub mod Figures
+pub mod AsWorded
+pub mod Calls
+pub mod Cases
 pub mod PartBins

@@ -1,5 +1,5 @@
 -- Samples below 2 ^ depth, of a plane or a part and of its denoised copy: from the test and back, and what they give: places for a line of noise, and a line of small numbers. Assumes nothing.
-use mathlib.Core.Path.{_≡_, refl, sym, ap, _∙_}
+use mathlib.Core.Path.{_≡_, ap, _∙_}
 use mathlib.Core.Bool.{true, and-eq-true-iff}
 use mathlib.Core.List.{List}
 use Prim.Native.Nat.{ℕ, _+_, _-_, _*_, _^_, _≤_, _<_}
@@ -19,7 +19,8 @@ use Rattle.noise.specs.Lines.{at, Places}
 use Rattle.noise.proofs.LineSums.{entry}
 use Rattle.profile.specs.Shifted.{shiftedNoise}
 use Rattle.profile.specs.Parts.{Pair, bothLow, Small}
-use Rattle.profile.proofs.Range.{InRange, shifted-range, range-small}
+use Rattle.profile.specs.Words.{InRange}
+use Rattle.profile.proofs.Range.{shifted-range, range-small}
 use Rattle.profile.proofs.Squares.{line-small}
 
 pub record Low (depth : ℕ) (source denoised : List ℕ) : Type 0 where

@@ -1,17 +1,16 @@
 -- The bins of a part, from its two lines: the line of shifted noise and the line of bins have the counts and squares of the part's bins. Assumes nothing.
-use mathlib.Core.Path.{_≡_, refl, sym, ap, _∙_}
+use mathlib.Core.Path.{_≡_, refl, sym, ap, _∙_, fun-ext}
 use mathlib.Core.List.{List}
-use Prim.Native.Nat.{ℕ, _+_, _-_, _/_, _^_, _≤_, _<_}
+use Prim.Native.Nat.{ℕ, _-_, _/_, _^_, _≤_, _<_}
 use lib.IntN.{ℤ}
 use lib.ListN.{length, getD}
 use Rattle.laws.specs.Table.{tabulate}
-use Rattle.laws.proofs.Table.{length-tabulate, getD-tabulate, tabulate-same}
-use Rattle.noise.specs.Lines.{at}
+use Rattle.laws.proofs.Table.{length-tabulate, getD-tabulate}
 use Rattle.noise.proofs.LineSums.{entry}
 use Rattle.profile.specs.Sums.{sumN}
-use Rattle.profile.specs.Shifted.{shiftedNoise, squareOf, square}
-use Rattle.profile.specs.Bins.{binAt, inBin, binCount, binSquares}
-use Rattle.profile.specs.Parts.{Pair, Binned, lineCount, lineSquares, increased}
+use Rattle.profile.specs.Shifted.{shiftedNoise, squareOf}
+use Rattle.profile.specs.Bins.{binAt, binCount, binSquares}
+use Rattle.profile.specs.Parts.{Pair, Binned, lineCount, lineSquares}
 use Rattle.profile.proofs.Range.{bin-shift}
 use Rattle.profile.proofs.Binning.{bin-ext}
 use Rattle.profile.proofs.Lows.{Low, part-small}
@@ -30,16 +29,12 @@ module _ {depth bits n : ℕ} {source denoised bins : List ℕ} {line : List ℤ
       rw (f, d) (getD-tabulate (length source) (λ k. getD source k 0 / 2 ^ (depth - bits)) i 0 l)
       ∙ bin-shift depth (P .deep) bits (getD source i 0) narrow (L .source-low i)
 
-  module _ (table : List ℕ) where
-    pub counts-more : increased table (2 ^ bits) (lineCount bins) ≡ increased table (2 ^ bits) (binCount bits (depth - 8) source)
-    unfolding lineCount binCount
-    counts-more =
-        tabulate-same (2 ^ bits) _ _
-        (λ j l. ap (λ (k : ℕ). getD table j 0 + k) (ap (sumN _) size ∙ bin-ext _ _ (λ i. 1) (λ i. 1) (length source) j bin-entry (λ i h. refl)))
+  pub counts-are : lineCount bins ≡ binCount bits (depth - 8) source
+  unfolding lineCount binCount
+  counts-are = fun-ext (λ j. ap (sumN _) size ∙ bin-ext _ _ (λ i. 1) (λ i. 1) (length source) j bin-entry (λ i h. refl))
 
-    pub squares-more : increased table (2 ^ bits) (lineSquares line bins) ≡ increased table (2 ^ bits) (binSquares bits (depth - 8) source denoised)
-    unfolding lineSquares binSquares
-    squares-more =
-        tabulate-same (2 ^ bits) _ _
-        (λ j l. ap (λ (k : ℕ). getD table j 0 + k)
-        (ap (sumN _) size ∙ bin-ext _ _ _ _ (length source) j bin-entry (λ i h. ap squareOf (entry (length source) (shiftedNoise (depth - 8) source denoised) e i h))))
+  pub squares-are : lineSquares line bins ≡ binSquares bits (depth - 8) source denoised
+  unfolding lineSquares binSquares
+  squares-are =
+      fun-ext
+      (λ j. ap (sumN _) size ∙ bin-ext _ _ _ _ (length source) j bin-entry (λ i h. ap squareOf (entry (length source) (shiftedNoise (depth - 8) source denoised) e i h)))

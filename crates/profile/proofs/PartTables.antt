@@ -1,12 +1,11 @@
 -- Tables that sum by bins, part by part: they have room for a part more, and a part more is the sum over more samples. Assumes nothing.
-use mathlib.Core.Path.{_≡_, refl, ap, _∙_}
+use mathlib.Core.Path.{_≡_, sym, ap, _∙_}
 use mathlib.Core.Bool.{cond}
 use mathlib.Core.List.{List}
-use Prim.Native.Nat.{ℕ, _+_, _-_, _*_, _^_, _≤_, _<_}
+use Prim.Native.Nat.{ℕ, _+_, _-_, _^_, _≤_, _<_}
 use native.Mathlib.Omega.{arith}
 use lib.Dec.{eqb}
 use lib.ListN.{length, getD}
-use Rattle.laws.specs.Table.{tabulate}
 use Rattle.laws.proofs.Table.{length-tabulate, getD-tabulate, tabulate-same}
 use Rattle.profile.specs.Sums.{sumN}
 use Rattle.profile.specs.Shifted.{square}
@@ -20,6 +19,11 @@ use Rattle.profile.proofs.StepSums.{binned}
 binned-at : (bin g : ℕ → ℕ) (n k : ℕ) {table : List ℕ} → table ≡ binned bin g n k → (j : ℕ) → j < n → getD table j 0 ≡ sumN (inBin bin j g) k
 binned-at bin g n k e j l = rw e (getD-tabulate n (λ j. sumN (inBin bin j g) k) j 0 l)
 
+-- an entry that is increased, where the table so increased is one over more samples
+entry-more : (bin g : ℕ → ℕ) (n m : ℕ) (table : List ℕ) (f : ℕ → ℕ) → increased table n f ≡ binned bin g n m
+    → (j : ℕ) → j < n → getD table j 0 + f j ≡ sumN (inBin bin j g) m
+entry-more bin g n m table f d j l = sym (getD-tabulate n (λ i. getD table i 0 + f i) j 0 l) ∙ binned-at bin g n m d j l
+
 -- more samples, from k of them to m
 binned-more : (bin g : ℕ → ℕ) (n k m : ℕ) {table : List ℕ} → table ≡ binned bin g n k → (f : ℕ → ℕ)
     → ((j : ℕ) → sumN (inBin bin j g) k + f j ≡ sumN (inBin bin j g) m) → increased table n f ≡ binned bin g n m
@@ -32,17 +36,6 @@ module _ {most depth : ℕ} (bits : ℕ) {source denoised : List ℕ} (P : Pair 
 
   abbrev sq : ℕ → ℕ
   sq = square (depth - 8) source denoised
-
-  pub tables : {k : ℕ} {count squares : List ℕ} → bits ≤ 8 → k ≤ 2 ^ 24 → LowTo depth source denoised k
-      → count ≡ binned bin (λ i. 1) (2 ^ bits) k → squares ≡ binned bin sq (2 ^ bits) k → Tables bits count squares
-  tables {k} h few L c s =
-      record {
-        narrow = h;
-        counts = rw c (length-tabulate (2 ^ bits) _);
-        sums = rw s (length-tabulate (2 ^ bits) _);
-        count-room = λ j l. rw (binned-at bin (λ i. 1) (2 ^ bits) k c j l) (omega (arith, count-le bin k j));
-        squares-room = λ j l. rw (binned-at bin sq (2 ^ bits) k s j l) (omega (arith, count-le bin k j, bin-le bin sq k j 65536 (square-small P L)));
-      }
 
   module _ (from m : ℕ) (inside : from + m ≤ length source) where
     pub counts-part : {count : List ℕ} → count ≡ binned bin (λ i. 1) (2 ^ bits) from
@@ -60,3 +53,16 @@ module _ {most depth : ℕ} (bits : ℕ) {source denoised : List ℕ} (P : Pair 
         binned-more bin sq (2 ^ bits) from (from + m) e _
         (λ j. part-more P from m inside (inBin bin j sq) (inBin (binAt bits (depth - 8) (part from m source)) j (square (depth - 8) (part from m source) (part from m denoised)))
         (λ i l k. cond (eqb (bin-part P from m inside bits (depth - 8) i l k) j) (square-part P from m inside (depth - 8) i l k) 0))
+
+    -- a part more than `from`, where all samples up to there are low
+    pub tables : {count squares : List ℕ} → bits ≤ 8 → from + m ≤ 2 ^ 24 → LowTo depth source denoised (from + m)
+        → count ≡ binned bin (λ i. 1) (2 ^ bits) from → squares ≡ binned bin sq (2 ^ bits) from
+        → Tables bits count squares (binCount bits (depth - 8) (part from m source)) (binSquares bits (depth - 8) (part from m source) (part from m denoised))
+    tables {count} {squares} h few L c s =
+        record {
+          narrow = h;
+          counts = rw c (length-tabulate (2 ^ bits) _);
+          sums = rw s (length-tabulate (2 ^ bits) _);
+          count-room = λ j l. rw (entry-more bin (λ i. 1) (2 ^ bits) (from + m) count _ (counts-part c) j l) (omega (arith, count-le bin (from + m) j));
+          squares-room = λ j l. rw (entry-more bin sq (2 ^ bits) (from + m) squares _ (squares-part s) j l) (omega (arith, count-le bin (from + m) j, bin-le bin sq (from + m) j 65536 (square-small P L)));
+        }

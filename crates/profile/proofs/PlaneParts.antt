@@ -2,7 +2,7 @@
 use mathlib.Core.Path.{_≡_, refl, sym, ap, _∙_, subst}
 use mathlib.Core.Bool.{Bool, true, false, false≢true}
 use mathlib.Core.List.{List}
-use Prim.Native.Nat.{ℕ, _+_, _-_, _*_, _^_, _≤_, _<_}
+use Prim.Native.Nat.{ℕ, _+_, _-_, _^_, _≤_, _<_}
 use native.Mathlib.Nat.{le-trans, lt-of-lt-of-le, le-of-eq}
 use native.Mathlib.Omega.{arith}
 use lib.Dec.{ltb}
@@ -35,6 +35,9 @@ module _ (from m : ℕ) (xs : List ℕ) (inside : from + m ≤ length xs) where
 pub record LowTo (depth : ℕ) (source denoised : List ℕ) (k : ℕ) : Type 0 where
   pub source-low : (i : ℕ) → i < k → getD source i 0 < 2 ^ depth
   pub denoised-low : (i : ℕ) → i < k → getD denoised i 0 < 2 ^ depth
+
+pub low-to : {depth : ℕ} {source denoised : List ℕ} (k : ℕ) → Low depth source denoised → LowTo depth source denoised k
+low-to k L = record { source-low = λ i l. L .source-low i; denoised-low = λ i l. L .denoised-low i }
 
 pub low-none : (depth : ℕ) (source denoised : List ℕ) → LowTo depth source denoised 0
 low-none depth source denoised = record { source-low = λ i l. absurd (omega arith); denoised-low = λ i l. absurd (omega arith) }

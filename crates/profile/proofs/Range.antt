@@ -1,24 +1,20 @@
 -- The shifted noise of samples below 2 ^ depth lies from −256 to 255, and a sample's bin is a shift by depth − bits. Assumes nothing.
-use mathlib.Core.Path.{_≡_, sym, ap, _∙_}
+use mathlib.Core.Path.{_≡_, sym, ap}
 use mathlib.Core.List.{List}
-use Prim.Native.Nat.{ℕ, suc, _+_, _-_, _/_, _^_, _≤_, _<_, min}
+use Prim.Native.Nat.{ℕ, _+_, _-_, _/_, _^_, _≤_, _<_}
 use native.Mathlib.Nat.{lt-of-lt-of-le, lt-of-le-of-lt, le-of-eq, le-suc}
 use native.Mathlib.Omega.{arith}
-use lib.Dec.{T, leb, le→leb, leb→le}
-use lib.IntN.{ℤ, pos, negsuc, negℤ, natAbs, _-ℤ_}
+use lib.Dec.{le→leb, leb→le}
+use lib.IntN.{ℤ, pos, negsuc, natAbs}
 use lib.ListN.{getD}
 use lib.Pow.{shr-lt, shr-shr}
-use lib.Signed.{_≤ℤ_, leZ-yes}
+use lib.Signed.{leZ-yes}
 use Rattle.laws.proofs.Whole.{abs-diff}
 use Rattle.noise.specs.Noise.{noise}
 use Rattle.noise.specs.Shift.{shifted}
 use Rattle.profile.specs.Shifted.{shiftedNoise}
 use Rattle.profile.specs.Bins.{binOf}
-
--- "each d from −256 to 255"
-pub record InRange (d : ℤ) : Type 0 where
-  pub least : negℤ (pos 256) ≤ℤ d
-  pub most : d ≤ℤ pos 255
+use Rattle.profile.specs.Words.{InRange}
 
 module _ (depth : ℕ) (deep : 8 ≤ depth) where
   split : 8 + (depth - 8) ≡ depth

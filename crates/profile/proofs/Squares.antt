@@ -1,7 +1,7 @@
 -- Squares of small numbers: no number's square is negative, those of a line fit an i32 by blocks of 32, and `dot` of a line with itself is their sum. Assumes nothing.
 use mathlib.Core.Path.{_≡_, refl, ap, _∙_}
 use mathlib.Core.List.{List}
-use Prim.Native.Nat.{ℕ, _*_, _^_, _≤_, _<_}
+use Prim.Native.Nat.{ℕ, _^_, _≤_, _<_}
 use native.Mathlib.Nat.{le-trans, le-of-eq, lt-of-le-of-lt, lt-of-lt-of-le, mul-le-mul-left}
 use native.Mathlib.Omega.{arith}
 use lib.Dec.{lit≤, lit<}

@@ -1,8 +1,7 @@
 -- The Rust's loops are the sums: of a plane's squares, and of what lies in each bin. By induction over the turns. Assumes nothing.
 use mathlib.Core.Path.{_≡_, refl, sym, ap, _∙_, subst}
 use mathlib.Core.List.{List}
-use Prim.Native.Nat.{ℕ, zero, suc, _+_, _-_, _^_, _≤_, _<_, zero-le}
-use native.Mathlib.Nat.{le-step, lt-suc-self}
+use Prim.Native.Nat.{ℕ, zero, suc, _+_, _^_, _<_, zero-le}
 use native.Mathlib.Numerals.{add-one}
 use native.Mathlib.Omega.{arith}
 use lib.ListN.{length, getD, replicate, length-replicate, getD-replicate}
@@ -10,10 +9,10 @@ use lib.Pow.{pow-pos}
 use Rattle.laws.specs.Loop.{loop}
 use Rattle.laws.specs.Table.{tabulate}
 use Rattle.laws.proofs.Loop.{loop-none, loop-more}
-use Rattle.laws.proofs.Table.{getD-tabulate, tabulate-same}
+use Rattle.laws.proofs.Table.{tabulate-same}
 use Rattle.profile.specs.Sums.{sumN}
 use Rattle.profile.specs.Shifted.{square}
-use Rattle.profile.specs.Bins.{binOf, binAt, inBin, binCount, binSquares}
+use Rattle.profile.specs.Bins.{binOf, binAt, inBin}
 use Rattle.profile.specs.Steps.{planeSquares, Totals, added, totalled, noTotals, totals}
 use Rattle.profile.proofs.Sums.{sum-more}
 use Rattle.profile.proofs.Tables.{by-entries, added-table}

@@ -21,15 +21,15 @@ sigmaAnswer width height depth source denoised =
 
 abbrev pub lumaOf : Profile → LumaProfile
 lumaOf p =
-    record { sigma16 = p .sigma16; «bin_sigma16» = p .binSigma; «bin_count» = p .count; «bin_squares» = p .squares }
+    record { sigma16 = p .sigma16; «bin_sigma16» = p .binSigma16; «bin_count» = p .count; «bin_squares» = p .squares }
 
 abbrev pub chromaOf : Profile → ChromaProfile
 chromaOf p =
-    record { sigma16 = p .sigma16; «bin_sigma16» = p .binSigma; «bin_count» = p .count; «bin_squares» = p .squares }
+    record { sigma16 = p .sigma16; «bin_sigma16» = p .binSigma16; «bin_count» = p .count; «bin_squares» = p .squares }
 
 -- n bins with nothing in them
 abbrev pub noProfile : ℕ → Profile
-noProfile n = record { sigma16 = 0; binSigma = replicate n 0; count = replicate n 0; squares = replicate n 0 }
+noProfile n = record { sigma16 = 0; binSigma16 = replicate n 0; count = replicate n 0; squares = replicate n 0 }
 
 -- "Luma .. eight bins. Chroma .. four bins.", 64 and 32 in a bin at least; the shift is depth − 8
 abbrev pub lumaProfile : ℕ → List ℕ → List ℕ → LumaProfile

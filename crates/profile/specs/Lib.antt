@@ -4,3 +4,5 @@ pub mod Bins
 pub mod Steps
 pub mod Parts
 pub mod Answers
+pub mod Words
+pub mod Cases

@@ -1,18 +1,17 @@
--- What the functions over a part of a plane ask and promise. A part is a run of samples of a plane, with the same places of its denoised copy.
+-- "noise vectors: noise worked out from two lent planes as needed": here part by part, a part being a run of samples and the same places of the denoised copy. What the functions over parts and planes ask and promise.
 use mathlib.Core.Path.{_≡_}
-use mathlib.Core.Bool.{Bool, _&&_}
+use mathlib.Core.Bool.{Bool, true, _&&_}
 use mathlib.Core.List.{List}
-use Prim.Native.Nat.{ℕ, _+_, _-_, _^_, _≤_, _<_}
-use lib.Dec.{eqb}
-use lib.IntN.{ℤ, pos, natAbs}
+use Prim.Native.Nat.{ℕ, _+_, _^_, _≤_, _<_}
+use lib.IntN.{ℤ, natAbs}
 use lib.ListN.{length, getD, replicate}
 use Rattle.laws.specs.Table.{tabulate}
 use Rattle.frame.specs.Questions.{low}
 use Rattle.noise.specs.Lines.{at}
 use Rattle.profile.specs.Sums.{sumN}
-use Rattle.profile.specs.Shifted.{shiftedNoise, squareOf, square}
+use Rattle.profile.specs.Shifted.{squareOf}
 use Rattle.profile.specs.Steps.{Profile}
-use Rattle.profile.specs.Bins.{binAt, inBin, binCount, binSquares}
+use Rattle.profile.specs.Bins.{inBin}
 
 -- two lists of one length, at most `most`, and a depth
 pub record Pair (most depth : ℕ) (source denoised : List ℕ) : Type 0 where
@@ -24,6 +23,10 @@ pub record Pair (most depth : ℕ) (source denoised : List ℕ) : Type 0 where
 -- question 6, of both
 abbrev pub bothLow : ℕ → List ℕ → List ℕ → Bool
 bothLow depth source denoised = low depth source && low depth denoised
+
+-- it is answered, and where the answer is yes, a fact holds
+abbrev pub LowThen : Bool → ℕ → List ℕ → List ℕ → Type 0 → Type 0
+LowThen answer depth source denoised fact = (answer ≡ bothLow depth source denoised) × (answer ≡ true → fact)
 
 -- a part's line of small numbers; and with the bin of each
 pub record Small (line : List ℤ) : Type 0 where
@@ -43,13 +46,13 @@ unfoldable pub lineSquares : List ℤ → List ℕ → ℕ → ℕ
 unfolding sumN
 lineSquares line bins j = sumN (inBin (λ i. getD bins i 0) j (λ i. squareOf (at line i))) (length bins)
 
--- tables of one length, with room for a part more
-pub record Tables (bits : ℕ) (count squares : List ℕ) : Type 0 where
+-- tables of 2 ^ bits entries each, which a u64 holds once they are increased
+pub record Tables (bits : ℕ) (count squares : List ℕ) (more more-squares : ℕ → ℕ) : Type 0 where
   pub narrow : bits ≤ 8
   pub counts : length count ≡ 2 ^ bits
   pub sums : length squares ≡ 2 ^ bits
-  pub count-room : (j : ℕ) → j < 2 ^ bits → getD count j 0 ≤ 2 ^ 32
-  pub squares-room : (j : ℕ) → j < 2 ^ bits → getD squares j 0 ≤ 2 ^ 48
+  pub count-room : (j : ℕ) → j < 2 ^ bits → getD count j 0 + more j < 2 ^ 64
+  pub squares-room : (j : ℕ) → j < 2 ^ bits → getD squares j 0 + more-squares j < 2 ^ 64
 
 -- each entry of a table, increased
 abbrev pub increased : List ℕ → ℕ → (ℕ → ℕ) → List ℕ
@@ -64,6 +67,6 @@ pub record Blank (bits : ℕ) (count squares : List ℕ) : Type 0 where
 -- these are the figures of a profile
 pub record Profiled (p : Profile) (plane : ℕ) (sigma count squares : List ℕ) : Type 0 where
   pub plane-is : plane ≡ p .sigma16
-  pub sigma-is : sigma ≡ p .binSigma
+  pub sigma-is : sigma ≡ p .binSigma16
   pub count-is : count ≡ p .count
   pub squares-is : squares ≡ p .squares

@@ -55,13 +55,13 @@ abbrev pub leastCount : ℕ → ℕ → ℕ
 leastCount least n = max (n / 100) least
 
 -- "A bin gives its own sigma16 if its count is at least [that] ..; else the plane's."
-unfoldable pub binSigma16 : ℕ → ℕ → ℕ → ℕ → ℕ
+unfoldable pub sigmaOfBin : ℕ → ℕ → ℕ → ℕ → ℕ
 unfolding sigma16Of
-binSigma16 enough plane squares count = cond (leb enough count) (sigma16Of squares count) plane
+sigmaOfBin enough plane squares count = cond (leb enough count) (sigma16Of squares count) plane
 
 pub record Profile : Type 0 where
   pub sigma16 : ℕ
-  pub binSigma : List ℕ
+  pub binSigma16 : List ℕ
   pub count : List ℕ
   pub squares : List ℕ
 
@@ -70,12 +70,12 @@ profiled bits least n t =
     let plane = sigma16Of (t .sqSum) n in
     record {
       sigma16 = plane;
-      binSigma = tabulate (2 ^ bits) (λ j. binSigma16 (leastCount least n) plane (getD (t .binSq) j 0) (getD (t .binN) j 0));
+      binSigma16 = tabulate (2 ^ bits) (λ j. sigmaOfBin (leastCount least n) plane (getD (t .binSq) j 0) (getD (t .binN) j 0));
       count = t .binN;
       squares = t .binSq;
     }
 
--- 2 ^ bits bins, and the least count of a bin in a small plane
+-- 2 ^ bits bins, and the least count of a bin in a small plane. For luma the Rust has n = `y.len().max(1)`: an accepted frame has a luma sample.
 unfoldable pub profile : ℕ → ℕ → ℕ → List ℕ → List ℕ → Profile
 unfolding totals
 profile bits least shift source denoised = profiled bits least (length source) (totals bits shift source denoised)

@@ -11,7 +11,7 @@ ghost use lib.ListN.{length, getD};
 ghost use Rattle.laws.specs.Table.{tabulate};
 ghost use Rattle.noise.specs.Lines.{at};
 ghost use Rattle.profile.specs.Bins.{binCount, binSquares};
-ghost use Rattle.profile.specs.Parts.{Pair, bothLow, Binned, lineCount, lineSquares, Tables, increased};
+ghost use Rattle.profile.specs.Parts.{Pair, bothLow, Binned, lineCount, lineSquares, Tables, increased, LowThen};
 
 // What a part has in one bin.
 pub struct Bin {
@@ -112,7 +112,7 @@ fn add_bins(
     count: &mut [u64],
     squares: &mut [u64],
 )
-    requires { ⌜ Binned (now line) (now bins) × (length (now own) ≡ length (now bins)) × Tables bits (now count) (now squares) ⌝ }
+    requires { ⌜ Binned (now line) (now bins) × (length (now own) ≡ length (now bins)) × Tables bits (now count) (now squares) (lineCount (now bins)) (lineSquares (now line) (now bins)) ⌝ }
     ensures { λ _. ⌜ (now (count .exit) ≡ increased (now (count .entry)) (2 ^ bits) (lineCount (now (bins .entry)))) × (now (squares .exit) ≡ increased (now (squares .entry)) (2 ^ bits) (lineSquares (now (line .entry)) (now (bins .entry)))) ⌝ }
 {
     let mut j = 0usize;
@@ -136,8 +136,8 @@ fn add_in(
     count: &mut [u64],
     squares: &mut [u64],
 ) -> bool
-    requires { ⌜ Pair 256 depth (now src) (now den) × (length (now noise) ≡ length (now src)) × (length (now line) ≡ length (now src)) × (length (now bins) ≡ length (now src)) × Tables bits (now count) (now squares) ⌝ }
-    ensures { λ r. ⌜ (r ≡ bothLow depth (now (src .entry)) (now (den .entry))) × (r ≡ true → (now (count .exit) ≡ increased (now (count .entry)) (2 ^ bits) (binCount bits (depth - 8) (now (src .entry)))) × (now (squares .exit) ≡ increased (now (squares .entry)) (2 ^ bits) (binSquares bits (depth - 8) (now (src .entry)) (now (den .entry))))) ⌝ }
+    requires { ⌜ Pair 256 depth (now src) (now den) × (length (now noise) ≡ length (now src)) × (length (now line) ≡ length (now src)) × (length (now bins) ≡ length (now src)) × (bothLow depth (now src) (now den) ≡ true → Tables bits (now count) (now squares) (binCount bits (depth - 8) (now src)) (binSquares bits (depth - 8) (now src) (now den))) ⌝ }
+    ensures { λ r. ⌜ LowThen r depth (now (src .entry)) (now (den .entry)) ((now (count .exit) ≡ increased (now (count .entry)) (2 ^ bits) (binCount bits (depth - 8) (now (src .entry)))) × (now (squares .exit) ≡ increased (now (squares .entry)) (2 ^ bits) (binSquares bits (depth - 8) (now (src .entry)) (now (den .entry))))) ⌝ }
 {
     if shifted_part(src, den, depth, noise, line) {
         bin_line(src, depth as u32 - bits, bins);
@@ -147,7 +147,7 @@ fn add_in(
     false
 }
 
-// The same, of a part.
+// The same, with lines of its own.
 pub fn add_part(
     src: &[u16],
     den: &[u16],
@@ -156,8 +156,8 @@ pub fn add_part(
     count: &mut [u64],
     squares: &mut [u64],
 ) -> bool
-    requires { ⌜ Pair 256 depth (now src) (now den) × Tables bits (now count) (now squares) ⌝ }
-    ensures { λ r. ⌜ (r ≡ bothLow depth (now (src .entry)) (now (den .entry))) × (r ≡ true → (now (count .exit) ≡ increased (now (count .entry)) (2 ^ bits) (binCount bits (depth - 8) (now (src .entry)))) × (now (squares .exit) ≡ increased (now (squares .entry)) (2 ^ bits) (binSquares bits (depth - 8) (now (src .entry)) (now (den .entry))))) ⌝ }
+    requires { ⌜ Pair 256 depth (now src) (now den) × (bothLow depth (now src) (now den) ≡ true → Tables bits (now count) (now squares) (binCount bits (depth - 8) (now src)) (binSquares bits (depth - 8) (now src) (now den))) ⌝ }
+    ensures { λ r. ⌜ LowThen r depth (now (src .entry)) (now (den .entry)) ((now (count .exit) ≡ increased (now (count .entry)) (2 ^ bits) (binCount bits (depth - 8) (now (src .entry)))) × (now (squares .exit) ≡ increased (now (squares .entry)) (2 ^ bits) (binSquares bits (depth - 8) (now (src .entry)) (now (den .entry))))) ⌝ }
 {
     let mut noise = blank_line();
     let mut line = blank_line();

@@ -5,9 +5,8 @@ use crate::NoiseEstimate;
 use crate::profiles::plane_profile;
 use frame::Shape;
 ghost use mathlib.Core.Path.{_≡_};
-ghost use mathlib.Core.Bool.{true};
 ghost use Prim.Native.Nat.{_^_};
-ghost use Rattle.profile.specs.Parts.{Pair, bothLow};
+ghost use Rattle.profile.specs.Parts.{Pair, LowThen};
 ghost use Rattle.profile.specs.Answers.{lumaProfile, chromaProfile, noEstimate, estimateAnswer};
 
 // Whether the samples of a luma plane are low, and where they are, its profile; and of a chroma plane.
@@ -24,7 +23,7 @@ pub struct Chroma {
 // Eight bins, with 64 samples at least.
 fn luma_profile(src: &[u16], den: &[u16], depth: u8) -> Luma
     requires { ⌜ Pair (2 ^ 24) depth (now src) (now den) ⌝ }
-    ensures { λ r. ⌜ (r .low ≡ bothLow depth (now (src .entry)) (now (den .entry))) × (r .low ≡ true → r .profile ≡ lumaProfile depth (now (src .entry)) (now (den .entry))) ⌝ }
+    ensures { λ r. ⌜ LowThen (r .low) depth (now (src .entry)) (now (den .entry)) (r .profile ≡ lumaProfile depth (now (src .entry)) (now (den .entry))) ⌝ }
 {
     let mut bin_sigma16 = [0u64; 8];
     let mut bin_count = [0u64; 8];
@@ -55,7 +54,7 @@ fn luma_profile(src: &[u16], den: &[u16], depth: u8) -> Luma
 // Four bins, with 32 samples at least.
 fn chroma_profile(src: &[u16], den: &[u16], depth: u8) -> Chroma
     requires { ⌜ Pair (2 ^ 24) depth (now src) (now den) ⌝ }
-    ensures { λ r. ⌜ (r .low ≡ bothLow depth (now (src .entry)) (now (den .entry))) × (r .low ≡ true → r .profile ≡ chromaProfile depth (now (src .entry)) (now (den .entry))) ⌝ }
+    ensures { λ r. ⌜ LowThen (r .low) depth (now (src .entry)) (now (den .entry)) (r .profile ≡ chromaProfile depth (now (src .entry)) (now (den .entry))) ⌝ }
 {
     let mut bin_sigma16 = [0u64; 4];
     let mut bin_count = [0u64; 4];

@@ -1,13 +1,12 @@
 // Parts of a plane, small enough to stay in the cache: the questions about its samples, and its noise, shifted right by depth − 8.
 ghost use mathlib.Core.Path.{_≡_};
-ghost use mathlib.Core.Bool.{true};
 ghost use Prim.Native.Nat.{_-_, min};
 ghost use lib.ListN.{length};
 ghost use Rattle.laws.specs.Table.{tabulate};
 ghost use Rattle.noise.specs.Lines.{at};
 ghost use Rattle.profile.specs.Sums.{sumN};
 ghost use Rattle.profile.specs.Shifted.{shiftedNoise, squareOf, square};
-ghost use Rattle.profile.specs.Parts.{Pair, Small, bothLow};
+ghost use Rattle.profile.specs.Parts.{Pair, Small, LowThen};
 
 // Whether the samples of a plane or a part are low, and where they are, the sum of the squares of its shifted noise.
 pub struct Squares {
@@ -35,7 +34,7 @@ pub fn shifted_part(
     line: &mut [i16],
 ) -> bool
     requires { ⌜ Pair 256 depth (now src) (now den) × (length (now noise) ≡ length (now src)) × (length (now line) ≡ length (now src)) ⌝ }
-    ensures { λ r. ⌜ (r ≡ bothLow depth (now (src .entry)) (now (den .entry))) × (r ≡ true → now (line .exit) ≡ tabulate (length (now (src .entry))) (shiftedNoise (depth - 8) (now (src .entry)) (now (den .entry)))) ⌝ }
+    ensures { λ r. ⌜ LowThen r depth (now (src .entry)) (now (den .entry)) (now (line .exit) ≡ tabulate (length (now (src .entry))) (shiftedNoise (depth - 8) (now (src .entry)) (now (den .entry)))) ⌝ }
 {
     if frame::samples_low(src, depth) & frame::samples_low(den, depth) {
         noise::noise_line(src, den, 0usize, 1usize, noise);
@@ -53,10 +52,10 @@ pub fn line_squares(line: &[i16]) -> u64
     noise::dot(line, line) as u64
 }
 
-// Of a part; noise and line have a place for each sample.
+// Whether a part's samples are low, and the sum of its d². The lines have a place for each sample.
 fn squares_in(src: &[u16], den: &[u16], depth: u8, noise: &mut [i16], line: &mut [i16]) -> Squares
     requires { ⌜ Pair 256 depth (now src) (now den) × (length (now noise) ≡ length (now src)) × (length (now line) ≡ length (now src)) ⌝ }
-    ensures { λ r. ⌜ (r .low ≡ bothLow depth (now (src .entry)) (now (den .entry))) × (r .low ≡ true → r .sum ≡ sumN (square (depth - 8) (now (src .entry)) (now (den .entry))) (length (now (src .entry)))) ⌝ }
+    ensures { λ r. ⌜ LowThen (r .low) depth (now (src .entry)) (now (den .entry)) (r .sum ≡ sumN (square (depth - 8) (now (src .entry)) (now (den .entry))) (length (now (src .entry)))) ⌝ }
 {
     if shifted_part(src, den, depth, noise, line) {
         return Squares {
@@ -67,10 +66,10 @@ fn squares_in(src: &[u16], den: &[u16], depth: u8, noise: &mut [i16], line: &mut
     Squares { low: false, sum: 0 }
 }
 
-// Of a part.
+// The same, with lines of its own.
 pub fn part_squares(src: &[u16], den: &[u16], depth: u8) -> Squares
     requires { ⌜ Pair 256 depth (now src) (now den) ⌝ }
-    ensures { λ r. ⌜ (r .low ≡ bothLow depth (now (src .entry)) (now (den .entry))) × (r .low ≡ true → r .sum ≡ sumN (square (depth - 8) (now (src .entry)) (now (den .entry))) (length (now (src .entry)))) ⌝ }
+    ensures { λ r. ⌜ LowThen (r .low) depth (now (src .entry)) (now (den .entry)) (r .sum ≡ sumN (square (depth - 8) (now (src .entry)) (now (den .entry))) (length (now (src .entry)))) ⌝ }
 {
     let mut noise = blank_line();
     let mut line = blank_line();

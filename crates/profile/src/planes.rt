@@ -4,16 +4,15 @@ use crate::parts::Squares;
 use crate::parts::part_size;
 use crate::parts::part_squares;
 ghost use mathlib.Core.Path.{_≡_};
-ghost use mathlib.Core.Bool.{true};
 ghost use Prim.Native.Nat.{_-_, _^_};
 ghost use Rattle.profile.specs.Steps.{planeSquares};
 ghost use Rattle.profile.specs.Answers.{sigmaAnswer};
-ghost use Rattle.profile.specs.Parts.{Pair, bothLow};
+ghost use Rattle.profile.specs.Parts.{Pair, LowThen};
 
-// Of a plane: its parts are asked and summed in turn, and the first whose samples are not low ends it.
+// The same of a plane, part by part; a part whose samples are not low ends it.
 fn plane_squares(src: &[u16], den: &[u16], depth: u8) -> Squares
     requires { ⌜ Pair (2 ^ 24) depth (now src) (now den) ⌝ }
-    ensures { λ r. ⌜ (r .low ≡ bothLow depth (now (src .entry)) (now (den .entry))) × (r .low ≡ true → r .sum ≡ planeSquares (depth - 8) (now (src .entry)) (now (den .entry))) ⌝ }
+    ensures { λ r. ⌜ LowThen (r .low) depth (now (src .entry)) (now (den .entry)) (r .sum ≡ planeSquares (depth - 8) (now (src .entry)) (now (den .entry))) ⌝ }
 {
     let n = src.len();
     let mut sum = 0u64;

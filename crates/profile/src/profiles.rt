@@ -2,13 +2,12 @@
 use crate::bins::add_part;
 use crate::parts::part_size;
 ghost use mathlib.Core.Path.{_≡_};
-ghost use mathlib.Core.Bool.{true};
 ghost use Prim.Native.Nat.{_-_, _^_, _<_};
 ghost use lib.ListN.{length, getD};
 ghost use Rattle.laws.specs.Table.{tabulate};
 ghost use Rattle.profile.specs.Sums.{sumOf};
-ghost use Rattle.profile.specs.Steps.{totals, profile, leastCount, binSigma16};
-ghost use Rattle.profile.specs.Parts.{Pair, Blank, bothLow, Profiled};
+ghost use Rattle.profile.specs.Steps.{totals, profile, leastCount, sigmaOfBin};
+ghost use Rattle.profile.specs.Parts.{Pair, Blank, Profiled, LowThen};
 
 // Whether the samples of a plane are low, and where they are, its sigma16.
 pub struct Plane {
@@ -26,7 +25,7 @@ fn plane_bins(
     squares: &mut [u64],
 ) -> bool
     requires { ⌜ Pair (2 ^ 24) depth (now src) (now den) × Blank bits (now count) (now squares) ⌝ }
-    ensures { λ r. ⌜ (r ≡ bothLow depth (now (src .entry)) (now (den .entry))) × (r ≡ true → (now (count .exit) ≡ totals bits (depth - 8) (now (src .entry)) (now (den .entry)) .binN) × (now (squares .exit) ≡ totals bits (depth - 8) (now (src .entry)) (now (den .entry)) .binSq)) ⌝ }
+    ensures { λ r. ⌜ LowThen r depth (now (src .entry)) (now (den .entry)) ((now (count .exit) ≡ totals bits (depth - 8) (now (src .entry)) (now (den .entry)) .binN) × (now (squares .exit) ≡ totals bits (depth - 8) (now (src .entry)) (now (den .entry)) .binSq)) ⌝ }
 {
     let n = src.len();
     let mut from = 0usize;
@@ -64,7 +63,7 @@ fn least_count(least: u64, n: u64) -> u64
 
 // A bin's own sigma16 where enough samples are in it, else the plane's.
 fn bin_sigma16(enough: u64, plane: u64, squares: u64, count: u64) -> u64
-    ensures { λ r. ⌜ r ≡ binSigma16 enough plane squares count ⌝ }
+    ensures { λ r. ⌜ r ≡ sigmaOfBin enough plane squares count ⌝ }
 {
     if count >= enough {
         float::sigma16(squares, count)
@@ -76,7 +75,7 @@ fn bin_sigma16(enough: u64, plane: u64, squares: u64, count: u64) -> u64
 // The same for every bin.
 fn fill_sigma16(enough: u64, plane: u64, count: &[u64], squares: &[u64], sigma: &mut [u64])
     requires { ⌜ (length (now count) ≡ length (now sigma)) × (length (now squares) ≡ length (now sigma)) ⌝ }
-    ensures { λ _. ⌜ now (sigma .exit) ≡ tabulate (length (now (sigma .entry))) (λ j. binSigma16 enough plane (getD (now (squares .entry)) j 0) (getD (now (count .entry)) j 0)) ⌝ }
+    ensures { λ _. ⌜ now (sigma .exit) ≡ tabulate (length (now (sigma .entry))) (λ j. sigmaOfBin enough plane (getD (now (squares .entry)) j 0) (getD (now (count .entry)) j 0)) ⌝ }
 {
     let mut j = 0usize;
     while j < sigma.len() {
@@ -97,7 +96,7 @@ pub fn plane_profile(
     squares: &mut [u64],
 ) -> Plane
     requires { ⌜ Pair (2 ^ 24) depth (now src) (now den) × Blank bits (now count) (now squares) × (length (now sigma) ≡ 2 ^ bits) ⌝ }
-    ensures { λ r. ⌜ (r .low ≡ bothLow depth (now (src .entry)) (now (den .entry))) × (r .low ≡ true → Profiled (profile bits least (depth - 8) (now (src .entry)) (now (den .entry))) (r .sigma16) (now (sigma .exit)) (now (count .exit)) (now (squares .exit))) ⌝ }
+    ensures { λ r. ⌜ LowThen (r .low) depth (now (src .entry)) (now (den .entry)) (Profiled (profile bits least (depth - 8) (now (src .entry)) (now (den .entry))) (r .sigma16) (now (sigma .exit)) (now (count .exit)) (now (squares .exit))) ⌝ }
 {
     if !plane_bins(src, den, depth, bits, count, squares) {
         return Plane {

@@ -1,6 +1,5 @@
 -- `denoise::denoise_frame`: a refusal returns before anything is written; acceptance gives each plane the size and the samples that it is denoised at. Assumes nothing.
-use mathlib.Core.Path.{_≡_, sym, _∙_}
-use Prim.Native.Nat.{ℕ, _*_, _≤_}
+use mathlib.Core.Path.{sym, _∙_}
 use native.Mathlib.Nat.{le-trans}
 use lib.ListN.{length}
 use borrow.Author.Needs.{needs}

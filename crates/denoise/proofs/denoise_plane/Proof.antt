@@ -1,5 +1,5 @@
 -- `denoise::denoise_plane`: a refusal returns before anything is written, and acceptance has what the plane needs. Assumes nothing.
-use mathlib.Core.Path.{_≡_, sym, _∙_}
+use mathlib.Core.Path.{sym, _∙_}
 use lib.ListN.{length}
 use borrow.Author.Needs.{needs}
 use Rattle.frame.proofs.Accepted.{PlaneCall, plane-call}

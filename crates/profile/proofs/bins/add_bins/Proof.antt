@@ -1,13 +1,12 @@
 -- `profile::bins::add_bins` meets its contract: the entries of the bins passed are increased. Assumes nothing.
-use mathlib.Core.Path.{_≡_, refl, sym, _∙_}
-use Prim.Native.Nat.{ℕ, _+_, _-_, _*_, _^_, _≤_, _<_}
+use mathlib.Core.Path.{_≡_, refl, _∙_}
+use Prim.Native.Nat.{_-_, _^_, _≤_, _<_}
 use native.Mathlib.Omega.{arith}
 use borrow.Author.Needs.{needs}
-use lib.ListN.{length, getD, length-set}
+use lib.ListN.{length}
 use lib.Pow.{pow-mono}
 use Rattle.profile.specs.Parts.{lineCount, lineSquares}
 use Rattle.profile.proofs.Tables.{Increasing, increase-starts, increase-entry, increase-turn, increase-ends}
-use Rattle.profile.proofs.Kept.{count-few, squares-by-count}
 use Rattle.profile.proofs.bins.add_bins.Statement.{statement}
 use Rattle.profile.proofs.bins.add_bins.Tie as tie
 
@@ -40,7 +39,7 @@ add-count c =
     let j = H .j in
     let l : j < 2 ^ S .args .bits = omega arith in
     rw (increase-entry _ _ _ (H .inv .2) l, c .before .before .before .bin-of .ensures .0)
-    (record { fits = omega (arith, S .pre .2 .count-room j l, count-few j (S .pre .0)) })
+    (record { fits = S .pre .2 .count-room j l })
 
 mul-count-2 : tie.Need-mul-count-2 Inv-loop μ-loop
 mul-count-2 c = search needs
@@ -61,7 +60,7 @@ add-squares c =
     let j = H .j in
     let l : j < 2 ^ S .args .bits = omega arith in
     rw (increase-entry _ _ _ (H .inv .3) l, c .before .before .before .before .before .bin-of .ensures .1)
-    (record { fits = omega (arith, S .pre .2 .squares-room j l, count-few j (S .pre .0), squares-by-count j (S .pre .0)) })
+    (record { fits = S .pre .2 .squares-room j l })
 
 mul-squares-2 : tie.Need-mul-squares-2 Inv-loop μ-loop
 mul-squares-2 c = search needs

@@ -1,6 +1,5 @@
 -- `profile::bins::add_part` meets its contract: three lines of its own, as long as the part. Assumes nothing.
-use mathlib.Core.Path.{_≡_, sym}
-use Prim.Native.Nat.{ℕ, _≤_}
+use mathlib.Core.Path.{sym}
 use borrow.Author.Needs.{needs}
 use lib.ListN.{length}
 use lib.Seq.{length-take-le}

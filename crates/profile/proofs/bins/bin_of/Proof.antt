@@ -1,7 +1,6 @@
 -- `profile::bins::bin_of` meets its contract: an empty bin has no squares. Assumes nothing.
-use mathlib.Core.Path.{_≡_, sym, _∙_}
+use mathlib.Core.Path.{sym, _∙_}
 use borrow.Author.Needs.{needs}
-use Rattle.profile.specs.Parts.{lineCount, lineSquares}
 use Rattle.profile.proofs.Kept.{empty-bin}
 use Rattle.profile.proofs.bins.bin_of.Statement.{statement}
 use Rattle.profile.proofs.bins.bin_of.Tie as tie

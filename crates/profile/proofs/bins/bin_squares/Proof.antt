@@ -1,12 +1,6 @@
 -- `profile::bins::bin_squares` meets its contract: the squares of the line that keeps bin j. Assumes nothing.
-use mathlib.Core.Path.{_≡_, sym, _∙_}
-use mathlib.Core.Bool.{cond}
-use Prim.Native.Nat.{ℕ, _≤_, _<_}
-use native.Mathlib.Omega.{arith}
+use mathlib.Core.Path.{_∙_}
 use borrow.Author.Needs.{needs}
-use lib.ListN.{length}
-use Rattle.profile.specs.Sums.{sumN}
-use Rattle.profile.specs.Parts.{lineSquares}
 use Rattle.profile.proofs.Kept.{kept-line-small, kept-squares}
 use Rattle.profile.proofs.bins.bin_squares.Statement.{statement}
 use Rattle.profile.proofs.bins.bin_squares.Tie as tie

@@ -1,5 +1,4 @@
 -- `profile::estimate::chroma_profile` meets its contract: the figures of the plane's profile. Assumes nothing.
-use mathlib.Core.Path.{_≡_, refl}
 use borrow.Author.Needs.{needs}
 use Rattle.profile.specs.Answers.{chromaOf}
 use Rattle.profile.proofs.estimate.chroma_profile.Statement.{statement}
@@ -21,7 +20,7 @@ returns : tie.Need-returns
 returns c =
     let E = c .before .before .before .plane-profile .ensures in (
       E .0,
-      λ t i. chromaOf (record { sigma16 = E .1 t .plane-is i; binSigma = E .1 t .sigma-is i; count = E .1 t .count-is i; squares = E .1 t .squares-is i }),
+      λ t i. chromaOf (record { sigma16 = E .1 t .plane-is i; binSigma16 = E .1 t .sigma-is i; count = E .1 t .count-is i; squares = E .1 t .squares-is i }),
     )
 
 pub chroma-profile-spec : {M : Type 1} → statement M

@@ -1,11 +1,10 @@
 -- `profile::estimate::noise_estimate` meets its contract: a refusal by the numbers, one by the samples of each pair of planes, and the profiles. Assumes nothing.
 use mathlib.Core.Path.{_≡_, refl, sym, ap, _∙_}
-use mathlib.Core.Bool.{Bool, true, false, cond, _&&_}
-use Prim.Native.Nat.{ℕ, _^_}
+use mathlib.Core.Bool.{Bool, false, cond, _&&_}
+use Prim.Native.Nat.{_^_}
 use native.Mathlib.Omega.{arith}
 use borrow.Author.Needs.{needs}
 use borrow.Author.Tests.{not-true, not-false}
-use lib.ListN.{length}
 use Rattle.profile.specs.Parts.{Pair, bothLow}
 use Rattle.profile.specs.Answers.{noEstimate, estimateAnswer}
 use Rattle.profile.proofs.Asked.{frame-stopped, frame-asked, frame-pairs}

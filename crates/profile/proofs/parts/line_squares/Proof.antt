@@ -1,6 +1,5 @@
 -- `profile::parts::line_squares` meets its contract: `dot` of the line with itself is the sum of its squares. Assumes nothing.
 use mathlib.Core.Path.{_≡_, ap, _∙_}
-use Prim.Native.Nat.{ℕ, _≤_, _<_}
 use native.Mathlib.Omega.{arith}
 use lib.IntN.{pos, natAbs}
 use lib.ListN.{length}

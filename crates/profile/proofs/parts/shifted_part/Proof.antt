@@ -1,7 +1,7 @@
 -- `profile::parts::shifted_part` meets its contract: where the samples are low, the noise is taken and then shifted. Assumes nothing.
-use mathlib.Core.Path.{_≡_, refl, sym, _∙_}
-use mathlib.Core.Bool.{true, false, _&&_, false≢true}
-use Prim.Native.Nat.{ℕ, _-_}
+use mathlib.Core.Path.{_≡_, sym, _∙_}
+use mathlib.Core.Bool.{_&&_, false≢true}
+use Prim.Native.Nat.{_-_}
 use borrow.Author.Needs.{needs}
 use Rattle.profile.specs.Parts.{bothLow}
 use Rattle.profile.proofs.Lows.{Low, is-low, places, shift-line}

@@ -1,7 +1,7 @@
 -- `profile::parts::squares_in` meets its contract: the squares of the line that the part fills. Assumes nothing.
-use mathlib.Core.Path.{_≡_, refl, sym, _∙_}
-use mathlib.Core.Bool.{true, false, false≢true}
-use Prim.Native.Nat.{ℕ, _-_}
+use mathlib.Core.Path.{sym, _∙_}
+use mathlib.Core.Bool.{false≢true}
+use Prim.Native.Nat.{_-_}
 use borrow.Author.Needs.{needs}
 use lib.ListN.{length}
 use Rattle.profile.specs.Shifted.{shiftedNoise}

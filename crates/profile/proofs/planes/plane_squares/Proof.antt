@@ -1,11 +1,11 @@
 -- `profile::planes::plane_squares` meets its contract: the parts passed are low, and the sum is that of their squares. Assumes nothing.
-use mathlib.Core.Path.{_≡_, refl, sym, ap, _∙_}
-use mathlib.Core.Bool.{true, false, false≢true}
-use Prim.Native.Nat.{ℕ, _+_, _-_, _*_, _^_, _≤_, _<_}
+use mathlib.Core.Path.{_≡_, refl, sym, _∙_}
+use mathlib.Core.Bool.{false≢true}
+use Prim.Native.Nat.{_+_, _-_, _≤_}
 use native.Mathlib.Omega.{arith}
 use borrow.Author.Needs.{needs}
 use borrow.Author.Tests.{not-true, not-false}
-use lib.ListN.{length, getD}
+use lib.ListN.{length}
 use Rattle.profile.specs.Sums.{sumN}
 use Rattle.profile.specs.Shifted.{square}
 use Rattle.profile.proofs.Sums.{sum-bound}

@@ -1,8 +1,7 @@
 -- `profile::profiles::bin_sigma16` meets its contract. Assumes nothing.
-use mathlib.Core.Path.{_≡_, refl, _∙_}
 use borrow.Author.Needs.{needs}
 use borrow.Author.Tests.{le-leb, lt-leb}
-use Rattle.profile.specs.Steps.{binSigma16}
+use Rattle.profile.specs.Steps.{sigmaOfBin}
 use Rattle.profile.proofs.profiles.bin_sigma16.Statement.{statement}
 use Rattle.profile.proofs.profiles.bin_sigma16.Tie as tie
 
@@ -10,11 +9,11 @@ sigma16-requires : tie.Need-sigma16-requires
 sigma16-requires c κs = search needs
 
 returns : tie.Need-returns
-unfolding binSigma16
+unfolding sigmaOfBin
 returns c = rw (le-leb _ _ (c .before .if1 .taken)) (c .sigma16 .ensures)
 
 returns-2 : tie.Need-returns-2
-unfolding binSigma16
+unfolding sigmaOfBin
 returns-2 c = rw (lt-leb _ _ (c .if1 .left))
 
 pub bin-sigma16-spec : {M : Type 1} → statement M

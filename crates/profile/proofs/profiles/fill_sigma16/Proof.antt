@@ -1,16 +1,15 @@
 -- `profile::profiles::fill_sigma16` meets its contract: the bins passed have their sigma16. Assumes nothing.
-use mathlib.Core.Path.{_≡_}
-use Prim.Native.Nat.{ℕ, _-_, _≤_, _<_}
+use Prim.Native.Nat.{_-_}
 use native.Mathlib.Omega.{arith}
 use borrow.Author.Needs.{needs}
 use lib.ListN.{length, getD, length-set}
 use Rattle.noise.proofs.Fill.{Filled, fill-starts, fill-turn, fill-ends}
-use Rattle.profile.specs.Steps.{binSigma16}
+use Rattle.profile.specs.Steps.{sigmaOfBin}
 use Rattle.profile.proofs.profiles.fill_sigma16.Statement.{statement}
 use Rattle.profile.proofs.profiles.fill_sigma16.Tie as tie
 
 abbrev Inv-loop : tie.InvT-loop
-Inv-loop enough plane count squares sigma₀ j₀ sigma j = Filled (λ k. binSigma16 enough plane (getD squares k 0) (getD count k 0)) sigma₀ sigma j
+Inv-loop enough plane count squares sigma₀ j₀ sigma j = Filled (λ k. sigmaOfBin enough plane (getD squares k 0) (getD count k 0)) sigma₀ sigma j
 
 abbrev μ-loop : tie.MeasureT-loop
 μ-loop enough plane count squares sigma₀ j₀ sigma j = length sigma - j

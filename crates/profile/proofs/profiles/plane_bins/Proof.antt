@@ -1,16 +1,15 @@
 -- `profile::profiles::plane_bins` meets its contract: the parts passed are low, and the tables sum their bins. Assumes nothing.
-use mathlib.Core.Path.{_≡_, refl, sym, ap, _∙_}
-use mathlib.Core.Bool.{true, false, false≢true}
-use Prim.Native.Nat.{ℕ, _+_, _-_, _^_, _≤_, _<_}
+use mathlib.Core.Path.{_≡_, refl, sym, _∙_}
+use mathlib.Core.Bool.{false≢true}
+use Prim.Native.Nat.{_+_, _-_, _^_, _≤_}
 use native.Mathlib.Omega.{arith}
 use borrow.Author.Needs.{needs}
 use borrow.Author.Tests.{not-true, not-false}
-use lib.ListN.{length, getD}
+use lib.ListN.{length}
 use Rattle.profile.specs.Shifted.{square}
 use Rattle.profile.specs.Bins.{binAt}
-use Rattle.profile.specs.Parts.{bothLow}
 use Rattle.profile.proofs.Lows.{is-low}
-use Rattle.profile.proofs.PlaneParts.{part, LowTo, low-none, low-more, low-all, not-low, part-pair}
+use Rattle.profile.proofs.PlaneParts.{LowTo, low-none, low-more, low-all, not-low, part-pair}
 use Rattle.profile.proofs.PartTables.{tables, counts-part, squares-part}
 use Rattle.profile.proofs.StepSums.{binned, binned-none, totals-are}
 use Rattle.profile.proofs.profiles.plane_bins.Statement.{statement}
@@ -72,9 +71,11 @@ part-add-part-end-2 c = search needs
 add-part-requires : tie.Need-add-part-requires Inv-loop μ-loop
 add-part-requires c κs =
     let S = c .before .before .before .before .before .before .before .before .before .before .before in
-    let H = c .before .before .before .before .before .before .loop in (
-      part-pair (S .pre .0) (H .from) (c .before .before .before .before .part-size .result) (inside (c .before .before .before .before)) (omega arith),
-      tables (S .args .bits) (S .pre .0) (S .pre .1 .narrow) (omega arith) (H .inv .4) (H .inv .5) (H .inv .6),
+    let H = c .before .before .before .before .before .before .loop in
+    let m = c .before .before .before .before .part-size .result in
+    let i = inside (c .before .before .before .before) in (
+      part-pair (S .pre .0) (H .from) m i (omega arith),
+      λ t. tables (S .args .bits) (S .pre .0) (H .from) m i (S .pre .1 .narrow) (omega (arith, S .pre .0 .few)) (low-more (S .pre .0) (H .from) m i (H .inv .4) (is-low _ _ _ t)) (H .inv .5) (H .inv .6),
     )
 
 same-length : tie.Need-same-length Inv-loop μ-loop

@@ -1,6 +1,6 @@
 -- `profile::profiles::plane_profile` meets its contract: the tables have the bins, and the figures follow from them. Assumes nothing.
-use mathlib.Core.Path.{_≡_, refl, sym, ap, _∙_}
-use mathlib.Core.Bool.{true, false, false≢true}
+use mathlib.Core.Path.{sym, ap, _∙_}
+use mathlib.Core.Bool.{false≢true}
 use Prim.Native.Nat.{ℕ, _-_, _^_}
 use borrow.Author.Needs.{needs}
 use borrow.Author.Tests.{not-true, not-false}

@@ -1,0 +1,46 @@
+-- "Plus zero if lag is 0, width is at most lag, height is 0 or the energy is 0": each is one of the definition's tests; an energy of 0 is plus zero by demand 3. Assumes nothing.
+use mathlib.Core.Path.{_≡_, refl, _∙_, ap}
+use mathlib.Core.Bool.{Bool, true, false, cond, _||_}
+use mathlib.Core.List.{List}
+use Prim.Native.Nat.{ℕ, _≤_}
+use lib.Dec.{eqb, leb}
+use lib.IntN.{pos}
+use lib.Ieee.{Float, le, ofBits}
+use borrow.Author.Tests.{le-leb, eq-eqb}
+use Rattle.laws.specs.Scaled.{plusZero, ofScaled}
+use Rattle.laws.proofs.Scaled.{scaled-zero}
+use Rattle.noise.specs.Lines.{Plane}
+use Rattle.noise.specs.Products.{Pair}
+use Rattle.noise.proofs.Steps.{laggedSum}
+use Rattle.gate.specs.RowCorrelation.{pair, energyF, rowCorrelation}
+use Rattle.gate.proofs.PlaneSums.{energy-is}
+
+any : (b : Bool) → (b || true) ≡ true
+any true = refl
+any false = refl
+
+either : (b : Bool) (x : Float) → cond b x x ≡ x
+either true x = refl
+either false x = refl
+
+module _ (p : Pair) (lag : ℕ) where
+  pub lag-zero : lag ≡ 0 → rowCorrelation p lag ≡ plusZero
+  unfolding rowCorrelation
+  lag-zero z = rw (eq-eqb lag 0 z)
+
+  pub narrow-zero : p .width ≤ lag → rowCorrelation p lag ≡ plusZero
+  unfolding rowCorrelation
+  narrow-zero n = rw (le-leb (p .width) lag n, any (eqb lag 0))
+
+  pub rowless-zero : p .height ≡ 0 → rowCorrelation p lag ≡ plusZero
+  unfolding rowCorrelation
+  rowless-zero z = rw (eq-eqb (p .height) 0 z, any (leb (p .width) lag), any (eqb lag 0))
+
+  still : energyF p ≡ plusZero → rowCorrelation p lag ≡ plusZero
+  unfolding rowCorrelation le ofBits
+  still e = rw e (either (eqb lag 0 || (leb (p .width) lag || eqb (p .height) 0)) plusZero)
+
+-- the exact energy of a plane is 0
+pub energy-zero : (w h lag : ℕ) (s d : List ℕ) → w ≤ 4096 → h ≤ 4096 → Plane w h s d → laggedSum (pair s d w h) (pair s d w h) 0 ≡ pos 0 → rowCorrelation (pair s d w h) lag ≡ plusZero
+energy-zero w h lag s d narrow short P z =
+    still (pair s d w h) lag (energy-is w h narrow short s d P ∙ ap (ofScaled 0) z ∙ scaled-zero 0)

@@ -1,0 +1,96 @@
+-- "The answer is a refusal number or an f64, and lies from −1 to 1." Its sums are exact, and the products add up to no more than the energy. Assumes nothing.
+use mathlib.Core.Path.{_≡_, refl, sym, ap, _∙_, subst}
+use mathlib.Core.Bool.{Bool, true, false, not, cond, _||_, false≢true}
+use mathlib.Core.List.{List}
+use Prim.Native.Nat.{ℕ, zero, suc, _*_, _^_, _≤_, _<_}
+use native.Mathlib.Nat.{le-refl, le-trans, mul-le-mul, add-zero, sub-zero}
+use native.Mathlib.Omega.{arith}
+use lib.Dec.{T, eqb, leb, nleb→lt, lit≤}
+use lib.IntN.{ℤ, pos, negsuc, natAbs, _*ℤ_}
+use lib.Signed.{_≤ℤ_}
+use lib.Ieee.{Float, binary64, div, le, ofBits}
+use Rattle.laws.specs.Scaled.{plusZero, ofScaled}
+use Rattle.laws.specs.Sums.{sumTo}
+use Rattle.laws.proofs.Scaled.{scaled-int, scaled-zero}
+use Rattle.laws.proofs.Sums.{sum-bound, sum-nonneg}
+use Rattle.laws.proofs.Whole.{abs-mul-le, square-nonneg}
+use Rattle.frame.specs.Calls.{deepPlaneRefusal}
+use Rattle.frame.proofs.Accepted.{deep-plane-call}
+use Rattle.noise.specs.Noise.{noise, place}
+use Rattle.noise.specs.Lines.{Plane}
+use Rattle.noise.specs.Steps.{lagF}
+use Rattle.noise.proofs.Steps.{laggedSum}
+use Rattle.noise.proofs.Grids.{plane-noise-le}
+use Rattle.noise.proofs.Accepted.{plane-of}
+use Rattle.gate.specs.RowCorrelation.{pair, energyF, rowCorrelation}
+use Rattle.gate.specs.Answers.{rho, rhoAnswer}
+use Rattle.gate.specs.declared.Rho.the-variants.{Value}
+use Rattle.gate.proofs.PlaneSums.{lagged-is, energy-is}
+use Rattle.gate.proofs.Energy.{lagged-within}
+use Rattle.gate.proofs.Within.{Within, quotient-within}
+
+nothing-within : Within plusZero
+unfolding le ofBits
+nothing-within = record { least = refl; most = refl }
+
+whole-abs : (z : ℤ) → pos 0 ≤ℤ z → z ≡ pos (natAbs z)
+whole-abs (pos n) h = refl
+whole-abs (negsuc n) h = absurd (h .le)
+
+module _ (w h lag : ℕ) (s d : List ℕ) (narrow : w ≤ 4096) (short : h ≤ 4096) (P : Plane w h s d) where
+  abbrev x : ℕ → ℕ → ℤ
+  x r c = noise s d (place w r c)
+
+  abbrev squares : ℤ
+  squares = sumTo (λ r. sumTo (λ c. x r c *ℤ x r c) w) h
+
+  -- the energy, as a number that is not negative
+  energy : energyF (pair s d w h) ≡ ofScaled 0 (pos (natAbs squares))
+  energy =
+      energy-is w h narrow short s d P
+      ∙ (λ i. ofScaled 0 (sumTo (λ r. sumTo (λ c. x r c *ℤ noise s d (place w r (add-zero c i))) (sub-zero w i)) h))
+      ∙ ap (ofScaled 0) (whole-abs squares (sum-nonneg (λ r. sumTo (λ c. x r c *ℤ x r c) w) h (λ r l. sum-nonneg (λ c. x r c *ℤ x r c) w (λ c m. square-nonneg (x r c)))))
+
+  small : natAbs squares ≤ 2 ^ 53
+  small =
+      le-trans (sum-bound (λ r. sumTo (λ c. x r c *ℤ x r c) w) (w * (4095 * 4095)) h
+      (λ r l. sum-bound (λ c. x r c *ℤ x r c) (4095 * 4095) w (λ c m. abs-mul-le (x r c) (x r c) 4095 4095 (plane-noise-le P r c l m) (plane-noise-le P r c l m))))
+      (le-trans (mul-le-mul short (mul-le-mul narrow (le-refl (4095 * 4095)))) (lit≤ tt))
+
+  some : le (energyF (pair s d w h)) plusZero ≡ false → 0 < natAbs squares
+  unfolding le ofBits
+  some t = go (natAbs squares) (ap (λ (e : Float). le e plusZero) (sym energy) ∙ t)
+    where
+      go : (n : ℕ) → le (ofScaled 0 (pos n)) plusZero ≡ false → 0 < n
+      go zero t = absurd (false≢true (sym t ∙ ap (λ (e : Float). le e plusZero) (scaled-zero 0)))
+      go (suc n) t = omega arith
+
+  quotient : lag < w → le (energyF (pair s d w h)) plusZero ≡ false → Within (div binary64 (lagF (pair s d w h) lag) (energyF (pair s d w h)))
+  quotient l t =
+      let a = laggedSum (pair s d w h) (pair s d w h) lag in
+      subst Within (λ i. div binary64 ((scaled-int a ∙ lagged-is w h narrow short s d lag a P refl) i) (sym energy i))
+      (quotient-within a (natAbs squares) (some t) small (lagged-within x h w lag (omega arith)))
+
+  pub row-within : Within (rowCorrelation (pair s d w h) lag)
+  unfolding rowCorrelation
+  row-within = go (eqb lag 0) (leb w lag) (eqb h 0) (le (energyF (pair s d w h)) plusZero) (nleb→lt w lag) refl
+    where
+      go : (a b c t : Bool) → (T (not b) → lag < w) → le (energyF (pair s d w h)) plusZero ≡ t
+          → Within (cond (a || (b || c)) plusZero (cond t plusZero (div binary64 (lagF (pair s d w h) lag) (energyF (pair s d w h)))))
+      go true b c t l e = nothing-within
+      go false true c t l e = nothing-within
+      go false false true t l e = nothing-within
+      go false false false true l e = nothing-within
+      go false false false false l e = quotient (l tt) e
+
+-- what the call answers, where it is no refusal
+pub answer-within : (s d : List ℕ) (w h lag depth : ℕ) (x : Float) → rhoAnswer s d w h lag depth ≡ Value x → Within x
+unfolding rhoAnswer
+answer-within s d w h lag depth x e = go (deepPlaneRefusal w h depth s d) refl e
+  where
+    go : (n : ℕ) → deepPlaneRefusal w h depth s d ≡ n → rho n (rowCorrelation (pair s d w h) lag) ≡ Value x → Within x
+    go zero a v =
+        let k = deep-plane-call w h depth s d a in
+        let f : rowCorrelation (pair s d w h) lag ≡ x = cc in
+        subst Within f (row-within w h lag s d (k .size .wide) (k .size .high) (plane-of w h depth s d (k .first) (k .second)))
+    go (suc n) a v = let z : _≡_ {A = ℕ} 0 1 = cc in absurd (omega arith)

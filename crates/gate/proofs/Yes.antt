@@ -1,0 +1,88 @@
+-- A gate says yes exactly if every test passes: test by test along the definition. Assumes nothing.
+use mathlib.Core.Path.{_≡_, refl, sym, _∙_}
+use mathlib.Core.Bool.{Bool, true, false, cond, false≢true}
+use mathlib.Core.List.{List}
+use Prim.Native.Nat.{ℕ, zero, suc, _-_, _*_}
+use lib.Dec.{ltb, eqb}
+use lib.Ieee.{le}
+use borrow.Author.Tests.{le-ltb, ltb-false, ne-eqb, eqb-false}
+use Rattle.laws.specs.Scaled.{plusZero}
+use Rattle.frame.specs.Size.{chromaWidth, chromaHeight}
+use Rattle.frame.specs.Questions.{accepted}
+use Rattle.frame.specs.Calls.{lumaGateRefusal, chromaGateRefusal}
+use Rattle.frame.specs.declared.Shape.{Shape}
+use Rattle.float.specs.Magnitude.{magnitudeOf}
+use Rattle.noise.specs.Products.{Pair}
+use Rattle.noise.specs.Steps.{dotF}
+use Rattle.profile.specs.Steps.{planeSigma16}
+use Rattle.gate.specs.RowCorrelation.{pair, rowCorrelation}
+use Rattle.gate.specs.Tests.{rowBound, temporal, lumaRow, lumaFinding, chromaFinding, isPassed}
+use Rattle.gate.specs.Answers.{lumaAnswer, chromaAnswer}
+use Rattle.gate.specs.Passes.{LumaPasses, ChromaPasses}
+use Rattle.gate.specs.declared.tests.Finding.{Finding}
+use Rattle.gate.specs.declared.tests.Finding.the-variants.{LowSigma, EmptyPlane, NoEnergyFirst, RowCorrelated, NoEnergySecond, TimeCorrelated, Passed}
+
+-- a test that ends with a no is not met, and what follows says yes
+after : (b : Bool) (end rest : Finding) → isPassed end ≡ false → isPassed (cond b end rest) ≡ true → (b ≡ false) × (isPassed rest ≡ true)
+after true end rest n e = absurd (false≢true (sym n ∙ e))
+after false end rest n e = (refl, e)
+
+last : (b : Bool) → isPassed (cond b Passed TimeCorrelated) ≡ true → b ≡ true
+last true e = refl
+last false e = absurd (false≢true e)
+
+module _ (sigma16 : ℕ) (p q : Pair) where
+  pub luma-yes : isPassed (lumaFinding sigma16 p q) ≡ true → LumaPasses sigma16 p q
+  unfolding lumaFinding temporal
+  luma-yes e =
+      let a = after (ltb sigma16 16) LowSigma _ refl e in
+      let b = after (le (dotF p p) plusZero) NoEnergyFirst _ refl (a .1) in
+      let c = after (le rowBound (magnitudeOf (lumaRow p))) RowCorrelated _ refl (b .1) in
+      let d = after (le (dotF q q) plusZero) NoEnergySecond _ refl (c .1) in
+      record { sigma = ltb-false sigma16 16 (a .0); first = b .0; row = c .0; second = d .0; time = last _ (d .1) }
+
+  pub luma-passes : LumaPasses sigma16 p q → isPassed (lumaFinding sigma16 p q) ≡ true
+  unfolding lumaFinding temporal
+  luma-passes t = rw (le-ltb sigma16 16 (t .sigma), t .first, t .row, t .second, t .time)
+
+  pub chroma-yes : isPassed (chromaFinding sigma16 p q) ≡ true → ChromaPasses sigma16 p q
+  unfolding chromaFinding temporal
+  chroma-yes e =
+      let a = after (ltb sigma16 8) LowSigma _ refl e in
+      let n = after (eqb (p .width * p .height) 0) EmptyPlane _ refl (a .1) in
+      let c = after (le rowBound (magnitudeOf (rowCorrelation p 1))) RowCorrelated _ refl (n .1) in
+      let b = after (le (dotF p p) plusZero) NoEnergyFirst _ refl (c .1) in
+      let d = after (le (dotF q q) plusZero) NoEnergySecond _ refl (b .1) in
+      record { sigma = ltb-false sigma16 8 (a .0); filled = eqb-false (p .width * p .height) 0 (n .0); row = c .0; first = b .0; second = d .0; time = last _ (d .1) }
+
+  pub chroma-passes : ChromaPasses sigma16 p q → isPassed (chromaFinding sigma16 p q) ≡ true
+  unfolding chromaFinding temporal
+  chroma-passes t = rw (le-ltb sigma16 8 (t .sigma), ne-eqb (p .width * p .height) 0 (t .filled), t .row, t .first, t .second, t .time)
+
+-- ---- the calls
+yes-of : (n : ℕ) (b : Bool) → accepted n b false ≡ true → (n ≡ 0) × (b ≡ true)
+yes-of zero b e = (refl, e)
+yes-of (suc n) b e = absurd (false≢true e)
+
+module _ (s : Shape) (a b c d : List ℕ) where
+  abbrev lumaPlane : List ℕ → List ℕ → Pair
+  lumaPlane x y = pair x y (s .width) (s .height)
+
+  pub film-grain-probe-yes : lumaAnswer s a b c d .yes ≡ true → (lumaGateRefusal s a b c d ≡ 0) × LumaPasses (planeSigma16 (s .depth - 8) a b) (lumaPlane a b) (lumaPlane c d)
+  unfolding lumaAnswer
+  film-grain-probe-yes e = let p = yes-of (lumaGateRefusal s a b c d) _ e in (p .0, luma-yes _ _ _ (p .1))
+
+  pub film-grain-probe-passes : lumaGateRefusal s a b c d ≡ 0 → LumaPasses (planeSigma16 (s .depth - 8) a b) (lumaPlane a b) (lumaPlane c d) → lumaAnswer s a b c d .yes ≡ true
+  unfolding lumaAnswer
+  film-grain-probe-passes e t = rw e (luma-passes _ _ _ t)
+
+  abbrev chromaPlane : List ℕ → List ℕ → Pair
+  chromaPlane x y = pair x y (chromaWidth (s .format) (s .width)) (chromaHeight (s .format) (s .height))
+
+  pub chroma-noise-gate-yes : (sigma16 : ℕ) → chromaAnswer s a b c d sigma16 .yes ≡ true → (chromaGateRefusal s a b c d ≡ 0) × ChromaPasses sigma16 (chromaPlane a b) (chromaPlane c d)
+  unfolding chromaAnswer
+  chroma-noise-gate-yes sigma16 e = let p = yes-of (chromaGateRefusal s a b c d) _ e in (p .0, chroma-yes _ _ _ (p .1))
+
+  pub chroma-noise-gate-passes : (sigma16 : ℕ) → chromaGateRefusal s a b c d ≡ 0 → ChromaPasses sigma16 (chromaPlane a b) (chromaPlane c d) → chromaAnswer s a b c d sigma16 .yes ≡ true
+  unfolding chromaAnswer
+  chroma-noise-gate-passes sigma16 e t = rw e (chroma-passes _ _ _ t)

@@ -1,0 +1,45 @@
+-- Document 01 on profiles, in its own words: "A bin gives its own sigma16 if its count is at least max(n/100, 64) for luma, max(n/100, 32) for chroma, division rounding down; else the plane's. The answer also carries each bin's count and sum of squares. Bin counts add up to the plane's samples and bin squares to its squares."
+use mathlib.Core.Path.{_≡_}
+use mathlib.Core.List.{List}
+use Prim.Native.Nat.{ℕ, _-_, _/_, _^_, _≤_, _<_, max}
+use lib.IntN.{ℤ, pos, negℤ}
+use lib.ListN.{length, getD}
+use lib.Signed.{_≤ℤ_}
+use Rattle.frame.specs.declared.Shape.{Shape}
+use Rattle.float.specs.Sigma.{Nearest16}
+use Rattle.profile.specs.Sums.{sumN, sumOf}
+use Rattle.profile.specs.Shifted.{shiftedNoise, square}
+use Rattle.profile.specs.Bins.{binCount, binSquares}
+use Rattle.profile.specs.Steps.{Profile}
+use Rattle.profile.specs.Answers.{lumaOf, chromaOf}
+use Rattle.profile.specs.declared.NoiseEstimate.{NoiseEstimate}
+
+-- "each d from −256 to 255"
+pub record InRange (d : ℤ) : Type 0 where
+  pub least : negℤ (pos 256) ≤ℤ d
+  pub most : d ≤ℤ pos 255
+
+-- n samples with d in range, and k the whole number nearest to 16 × root(sum of d² / n)
+pub record PlaneInWords (shift : ℕ) (source denoised : List ℕ) (k : ℕ) : Type 0 where
+  pub range : (i : ℕ) → i < length source → InRange (shiftedNoise shift source denoised i)
+  pub nearest : 0 < length source → Nearest16 (sumN (square shift source denoised) (length source)) (length source) k
+
+-- 2 ^ bits bins, with `least` samples at least
+pub record InWords (bits least shift : ℕ) (source denoised : List ℕ) (p : Profile) : Type 0 where
+  pub plane : PlaneInWords shift source denoised (p .sigma16)
+  pub count-is : (j : ℕ) → j < 2 ^ bits → getD (p .count) j 0 ≡ binCount bits shift source j
+  pub squares-is : (j : ℕ) → j < 2 ^ bits → getD (p .squares) j 0 ≡ binSquares bits shift source denoised j
+  pub counts-add-up : sumOf (p .count) ≡ length source
+  pub squares-add-up : sumOf (p .squares) ≡ sumN (square shift source denoised) (length source)
+  pub own : (j : ℕ) → j < 2 ^ bits → max (length source / 100) least ≤ getD (p .count) j 0 → Nearest16 (getD (p .squares) j 0) (getD (p .count) j 0) (getD (p .binSigma16) j 0)
+  pub other : (j : ℕ) → j < 2 ^ bits → getD (p .count) j 0 < max (length source / 100) least → getD (p .binSigma16) j 0 ≡ p .sigma16
+
+-- the answer of an accepted frame call: eight luma bins of at least 64 samples, four chroma bins of at least 32
+pub record EstimateInWords (s : Shape) (y cb cr y′ cb′ cr′ : List ℕ) (e : NoiseEstimate) : Type 0 where
+  pub y-profile : Profile
+  pub cb-profile : Profile
+  pub cr-profile : Profile
+  pub answer : e ≡ record { refusal = 0; luma = lumaOf y-profile; cb = chromaOf cb-profile; cr = chromaOf cr-profile }
+  pub y-words : InWords 3 64 (s .depth - 8) y y′ y-profile
+  pub cb-words : InWords 2 32 (s .depth - 8) cb cb′ cb-profile
+  pub cr-words : InWords 2 32 (s .depth - 8) cr cr′ cr-profile
