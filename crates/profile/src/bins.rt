@@ -97,10 +97,9 @@ fn bin_of(line: &[i16], bins: &[u16], j: u16, own: &mut [i16]) -> Bin
             squares: 0,
         };
     }
-    Bin {
-        count: count as u64,
-        squares: bin_squares(line, bins, j, own),
-    }
+    let count = count as u64;
+    let squares = bin_squares(line, bins, j, own);
+    Bin { count, squares }
 }
 
 // count[j] += how many are in bin j, and squares[j] += their squares, for every j.

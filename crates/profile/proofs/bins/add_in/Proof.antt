@@ -25,7 +25,7 @@ sub-bin-line : tie.Need-sub-bin-line
 sub-bin-line c = let h = room c .narrow in omega arith
 
 bin-line-requires : tie.Need-bin-line-requires
-bin-line-requires c κs = (omega arith, sym (c .before .before .before .before .before .before .before .before .before .before .before .before .pre .3))
+bin-line-requires c κs = (omega arith, omega (arith, c .before .before .before .before .before .before .before .before .before .before .before .before .pre .0 .same, c .before .before .before .before .before .before .before .before .before .before .before .before .pre .3))
 
 -- the bins of the lines are those of the part
 lines : (c : tie.After-bin-line) → let A = c .before .before .before .before .before .before .before .before .before .before .before .before .before .args in

@@ -13,8 +13,8 @@ returns c =
     let e = sym (c .if1 .taken) ∙ c .before .bin-count .ensures in
     (e, sym (empty-bin (c .before .before .before .args .j) (c .before .before .before .pre .0) (sym e)))
 
-cast-t7 : tie.Need-cast-t7
-cast-t7 c = search needs
+cast-count : tie.Need-cast-count
+cast-count c = search needs
 
 bin-squares-requires : tie.Need-bin-squares-requires
 bin-squares-requires c κs = search needs
@@ -23,8 +23,8 @@ same-length : tie.Need-same-length
 same-length c = search needs
 
 returns-2 : tie.Need-returns-2
-returns-2 c = (c .before .before .before .before .bin-count .ensures, c .before .bin-squares .ensures)
+returns-2 c = search needs
 
 pub bin-of-spec : {M : Type 1} → statement M
 bin-of-spec =
-    tie.close (tie.spec bin-count-requires returns cast-t7 bin-squares-requires same-length returns-2)
+    tie.close (tie.spec bin-count-requires returns cast-count bin-squares-requires same-length returns-2)
