@@ -1,13 +1,14 @@
 -- `reader::sample_at` meets its contract: each return is a case of what a read answers, and the place that is read lies in the plane. Assumes nothing.
 use mathlib.Core.Path.{_≡_, sym, ap, _∙_}
-use Prim.Native.Nat.{ℕ, _+_, _*_, _<_, _≤_}
-use native.Mathlib.Nat.{mul-le-mul}
+use Prim.Native.Nat.{_+_, _*_, _<_, _≤_}
 use native.Mathlib.Omega.{arith}
 use borrow.Author.Needs.{needs}
 use lib.ListN.{length}
 use mir.Syntax.{w32}
 use mir.ValLaws.{toZ-ofZ}
+use Rattle.frame.specs.Questions.{sideLimit}
 use Rattle.frame.proofs.Accepted.{PlaneCall, plane-call}
+use Rattle.frame.proofs.Size.{area-le}
 use Rattle.reader.specs.Read.{heldAt}
 use Rattle.reader.proofs.Answers.{refused, nothing, found, has-rows, has-cols, in-plane}
 use Rattle.reader.proofs.sample_at.Statement.{statement}
@@ -54,8 +55,8 @@ place c =
     let A = c .before .before .before .before .before .before .args in
     rw (row-is (c .before), col-is c) (in-plane (A .rows) (A .cols) (A .row) (A .col) (rows-known (c .before .before)) (cols-known (c .before .before)))
 
-size : (c : tie.After-held-at2) → let A = c .before .before .before .before .before .before .args in A .cols * A .rows ≤ 4096 * 4096
-size c = mul-le-mul (known (c .before .before) .size .wide) (known (c .before .before) .size .high)
+size : (c : tie.After-held-at2) → let A = c .before .before .before .before .before .before .args in A .cols * A .rows ≤ sideLimit * sideLimit
+size c = area-le sideLimit (known (c .before .before) .size .wide) (known (c .before .before) .size .high)
 
 mul-i : tie.Need-mul-i
 mul-i c = omega (arith, place c, size c)

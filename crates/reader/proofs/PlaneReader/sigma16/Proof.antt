@@ -46,10 +46,10 @@ use Rattle.profile.specs.Answers.{sigmaAnswer}
 use Rattle.profile.specs.declared.Sigma.{Sigma}
 use Rattle.profile.proofs.Sigma as S
 use Rattle.profile.proofs.Sigma.Laws as S′
-use Rattle.profile.proofs.planes.plane_sigma16 as plane
-use Rattle.profile.proofs.planes.plane_sigma16.Symbol as plane-def
-use Rattle.profile.proofs.planes.plane_sigma16.Symbol.{name as #plane-sigma16}
-use Rattle.profile.proofs.planes.plane_sigma16.Met as plane-thm
+use Rattle.profile.proofs.plane_sigma16 as plane
+use Rattle.profile.proofs.plane_sigma16.Symbol as plane-def
+use Rattle.profile.proofs.plane_sigma16.Symbol.{name as #plane-sigma16}
+use Rattle.profile.proofs.plane_sigma16.Met as plane-thm
 use Rattle.reader.specs.declared.PlaneReader.{PlaneReader}
 use Rattle.reader.proofs.PlaneReader as T
 use Rattle.reader.proofs.PlaneReader.Laws as T′
@@ -199,4 +199,4 @@ sigma16-spec 𝓤 H 𝓜 𝓖 𝓡 =
     entered 𝓤 H (tripleOf 𝓤 H (𝓖 .A) sigma.signature (sigma.spec 𝓤 H (𝓖 .A) (𝓜 .mem) (𝓡 .run)))
     (tables 𝓤 H 𝓜 𝓡 code.env .C) (tables 𝓤 H 𝓜 𝓡 code.env .Λ) #sigma16 code.function (code.unfolded 𝓤 H 𝓜 𝓡)
     (sigma-meets 𝓤 H (𝓖 .A) (givenOf 𝓤 H 𝓜 𝓖) (𝓜 .mem) (𝓡 .run) (tablesOf 𝓤 H 𝓜 (tables 𝓤 H 𝓜 𝓡 code.env))
-    (cited 𝓤 H (Plane 𝓤 H (𝓖 .A) (𝓜 .mem) (𝓡 .run)) 𝓜 𝓡 code.env #plane-sigma16 plane-def.routine code.calls-profile·planes·plane-sigma16 (plane-thm.met 𝓤 H 𝓜 𝓖 𝓡)))
+    (cited 𝓤 H (Plane 𝓤 H (𝓖 .A) (𝓜 .mem) (𝓡 .run)) 𝓜 𝓡 code.env #plane-sigma16 plane-def.routine code.calls-profile·plane-sigma16 (plane-thm.met 𝓤 H 𝓜 𝓖 𝓡)))
