@@ -2,13 +2,13 @@
 use mathlib.Core.List.{List, [], _∷_, _++_}
 use Prim.Native.Nat.{ℕ, _-_}
 use lib.ListN.{replicate}
-use Rattle.laws.specs.Cases.{Case}
+use Rattle.table.specs.Cases.{Case, row}
 use Rattle.frame.specs.Questions.{firstNo, orderKnown, bitsKnown}
 use Rattle.frame.specs.Calls.{planeRefusal, deepPlaneRefusal, frameRefusal, fitRefusal, lumaGateRefusal, chromaGateRefusal, denoiseFrameRefusal}
 use Rattle.frame.specs.declared.Shape.{Shape}
 
 abbrev pub row : {A : Type 0} → A → ℕ → Case A ℕ
-row call number = record { input = call; stated = number }
+row call number = row call number
 
 -- ---- lone planes: width, height, the lengths of source and destination
 

@@ -1,12 +1,12 @@
 -- The seeds and the draws of the table, each row by computation. Assumes nothing.
 use mathlib.Core.Path.{refl}
 use Prim.Native.Nat.{ℕ}
-use Rattle.laws.specs.Cases.{Right}
+use Rattle.table.specs.Cases.{Right}
 use Rattle.random.specs.Seed.{seed}
 use Rattle.random.specs.Text.{newBit, moved, answer}
 use Rattle.random.specs.Register.{step}
-use Rattle.random.specs.Cases.{seeds, draws}
+use Rattle.table.specs.Random.{seeds, draws}
 use Rattle.random.specs.declared.register.RandomRegister.{RandomRegister}
 
 pub seeds-right : Right seed seeds
 seeds-right = (refl, (refl, (refl, tt)))

@@ -4,13 +4,13 @@ use mathlib.Core.List.{List}
 use lib.IntN.{ℤ}
 use lib.ListN.{length}
 use lib.Ieee.{mul, div, round, ofInt, ofBits, toSigned, toUnsigned}
-use Rattle.laws.specs.Cases.{Right}
+use Rattle.table.specs.Cases.{Right}
 use Rattle.float.specs.Round.{roundHalfAway}
 use Rattle.float.specs.Root.{root}
 use Rattle.float.specs.Steps.{quantAr, sigma16Of}
 use Rattle.float.specs.Coefficient.{coefficient}
 use Rattle.float.specs.Sigma.{wholeSigma16, sumOfSquares}
-use Rattle.float.specs.Cases.{sigmaCases, coefficientCases, rootCases, roundCases}
+use Rattle.table.specs.Float.{sigmaCases, coefficientCases, rootCases, roundCases}
 
 pub sigma-cases-right : Right (λ (ds : List ℤ). sigma16Of (sumOfSquares ds) (length ds)) sigmaCases
 unfolding sigma16Of sumOfSquares mul div ofInt ofBits toUnsigned

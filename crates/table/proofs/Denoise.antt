@@ -1,8 +1,8 @@
 -- The worked examples, by computation. Assumes nothing.
 use mathlib.Core.Path.{refl}
-use Rattle.laws.specs.Cases.{Right}
+use Rattle.table.specs.Cases.{Right}
 use Rattle.denoise.specs.Denoise.{nine, smoothed, denoised}
-use Rattle.denoise.specs.Cases.{denoisedPlane, cases}
+use Rattle.table.specs.Denoise.{denoisedPlane, cases}
 
 pub cases-right : Right denoisedPlane cases
 unfolding denoised smoothed nine

@@ -5,11 +5,11 @@ use Prim.Native.Nat.{ℕ, _-_}
 use lib.IntN.{pos}
 use lib.ListN.{length, replicate}
 use lib.Ieee.{Float, nan, neg, binary64, ofBits, ofInt}
-use Rattle.laws.specs.Cases.{Case}
+use Rattle.table.specs.Cases.{Case, row}
 use Rattle.laws.specs.Scaled.{plusZero}
 use Rattle.solve.specs.Elimination.{Row, Matrix, limit}
 use Rattle.solve.specs.Answer.{unsolvedOf, solvedOf}
 use Rattle.solve.specs.declared.Solved.{Solved}
 
 -- the matrix, the right side and the order
 abbrev pub Input : Type 0
@@ -22,15 +22,15 @@ solved x = solvedOf (x .0) (x .1) (x .2)
 abbrev pub padded : {A : Type 0} → A → List A → List A
 padded unused xs = xs ++ replicate (25 - length xs) unused
 
-abbrev pub row : Row → Row
-row = padded plusZero
+abbrev pub filled : Row → Row
+filled = padded plusZero
 
 -- as many equations as the right side has values
 abbrev pub equations : Matrix → Row → Input
-equations a b = (padded (row []) (map row a), row b, length b)
+equations a b = (padded (filled []) (map filled a), filled b, length b)
 
 abbrev pub solution : Row → Solved
-solution xs = record { refusal = 0; found = true; solution = record { order = length xs; values = row xs } }
+solution xs = record { refusal = 0; found = true; solution = record { order = length xs; values = filled xs } }
 
 abbrev pub whole : ℕ → Float
 whole n = ofInt binary64 (pos n)
@@ -53,10 +53,10 @@ cases =
       input = equations ((whole 1 ∷ whole 1 ∷ []) ∷ (whole 1 ∷ whole 1 ∷ []) ∷ []) (plusZero ∷ plusZero ∷ []);
       stated = unsolvedOf 0;
     } ∷
-    record { input = (padded (row []) [], row [], 0); stated = unsolvedOf 8 } ∷
-    record { input = (padded (row []) [], row [], 26); stated = unsolvedOf 8 } ∷
-    record { input = single limit limit; stated = solution (whole 1 ∷ []) } ∷
-    record { input = single (neg limit) limit; stated = solution (neg (whole 1) ∷ []) } ∷
-    record { input = single underLimit limit; stated = unsolvedOf 0 } ∷
-    record { input = single nan limit; stated = solution (nan ∷ []) } ∷
+    row (padded (filled []) [], filled [], 0) (unsolvedOf 8) ∷
+    row (padded (filled []) [], filled [], 26) (unsolvedOf 8) ∷
+    row (single limit limit) (solution (whole 1 ∷ [])) ∷
+    row (single (neg limit) limit) (solution (neg (whole 1) ∷ [])) ∷
+    row (single underLimit limit) (unsolvedOf 0) ∷
+    row (single nan limit) (solution (nan ∷ [])) ∷
     []

@@ -1,10 +1,10 @@
 -- The worked refusals, row by row. By computation. Assumes nothing.
 use mathlib.Core.Path.{refl}
-use Rattle.laws.specs.Cases.{Right}
+use Rattle.table.specs.Cases.{Right}
 use Rattle.frame.specs.Size.{chromaWidth, chromaHeight}
 use Rattle.frame.specs.Questions.{each, low, allLow}
 use Rattle.frame.specs.Calls.{planeQuestions, deepPlaneQuestions, shapeQuestions, frameQuestions, lumaQuestions, chromaQuestions, copyQuestions, planeRefusal, deepPlaneRefusal, frameRefusal, fitRefusal, lumaGateRefusal, chromaGateRefusal, denoiseFrameRefusal}
-use Rattle.frame.specs.Cases.{plane, planeCases, deepPlane, deepPlaneCases, frame, frameCases, fit, fitCases, denoiseFrame, denoiseFrameCases, lumaGate, lumaGateCases, chromaGate, chromaGateCases, order, orderCases, bits, bitsCases}
+use Rattle.table.specs.Questions.{plane, planeCases, deepPlane, deepPlaneCases, frame, frameCases, fit, fitCases, denoiseFrame, denoiseFrameCases, lumaGate, lumaGateCases, chromaGate, chromaGateCases, order, orderCases, bits, bitsCases}
 
 pub planes-right : Right plane planeCases
 unfolding planeRefusal planeQuestions each

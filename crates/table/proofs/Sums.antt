@@ -1,10 +1,10 @@
 -- The rows of `sumCases`, by computation. Assumes nothing.
 use mathlib.Core.Path.{refl}
 use lib.Ieee.{add, round, ofBits}
-use Rattle.laws.specs.Cases.{Right}
+use Rattle.table.specs.Cases.{Right}
 use Rattle.laws.specs.Scaled.{ofScaled}
 use Rattle.laws.specs.FloatSums.{sumF}
-use Rattle.laws.specs.SumCases.{sumCases}
+use Rattle.table.specs.Sums.{sumCases}
 
 pub sum-cases-right : Right sumF sumCases
 unfolding sumF add round ofBits ofScaled

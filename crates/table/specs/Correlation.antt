@@ -3,12 +3,12 @@ use mathlib.Core.List.{List, [], _∷_}
 use Prim.Native.Nat.{ℕ, _*_}
 use lib.IntN.{ℤ, pos}
 use lib.ListN.{replicate}
-use Rattle.laws.specs.Cases.{Case}
+use Rattle.table.specs.Cases.{Case}
 use Rattle.laws.specs.Table.{tabulate}
 use Rattle.frame.specs.Size.{chromaWidth, chromaHeight}
 use Rattle.noise.specs.Average.{Luma, quarters}
 use Rattle.noise.specs.Quarters.{luma}
 use Rattle.correlation.specs.Steps.{pair, corr}
 
 -- luma and one chroma component, denoised to 0
 pub record Noises : Type 0 where

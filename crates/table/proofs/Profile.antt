@@ -1,13 +1,13 @@
 -- Every row of the tables holds, by computation. Assumes nothing.
 use mathlib.Core.Path.{refl}
 use lib.Ieee.{mul, div, ofInt, ofBits, toUnsigned}
-use Rattle.laws.specs.Cases.{Right}
+use Rattle.table.specs.Cases.{Right}
 use Rattle.frame.specs.Questions.{each, low, allLow}
 use Rattle.frame.specs.Calls.{deepPlaneQuestions, deepPlaneRefusal}
 use Rattle.float.specs.Steps.{sigma16Of}
 use Rattle.profile.specs.Steps.{planeSquares, planeSigma16}
 use Rattle.profile.specs.Answers.{sigmaAnswer}
-use Rattle.profile.specs.Cases.{sigma, sigmaCases, bin, binCases, least, leastCases}
+use Rattle.table.specs.Profile.{sigma, sigmaCases, bin, binCases, least, leastCases}
 
 pub sigma-cases-right : Right sigma sigmaCases
 unfolding sigmaAnswer deepPlaneRefusal deepPlaneQuestions each low allLow planeSigma16 planeSquares sigma16Of mul div ofInt ofBits toUnsigned
