@@ -8,9 +8,9 @@ use lib.Ieee.{Float, fin}
 use mathlib.Core.Bool.{true, false}
 use Rattle.table.specs.Cases.{Case, row}
 use Rattle.frame.specs.declared.Shape.{Shape}
-use Rattle.noise.specs.Products.{Pair}
+use Rattle.noise.specs.Products.{Pair, pair}
 use Rattle.profile.specs.Steps.{planeSigma16}
-use Rattle.gate.specs.RowCorrelation.{pair, rowCorrelation}
+use Rattle.gate.specs.RowCorrelation.{rowCorrelation}
 use Rattle.gate.specs.Answers.{lumaAnswer, chromaAnswer}
 use Rattle.gate.specs.declared.Gate.{Gate}
 
