@@ -7,9 +7,6 @@ use Rattle.frame.specs.Questions.{firstNo, orderKnown, bitsKnown}
 use Rattle.frame.specs.Calls.{planeRefusal, deepPlaneRefusal, frameRefusal, fitRefusal, lumaGateRefusal, chromaGateRefusal, denoiseFrameRefusal}
 use Rattle.frame.specs.declared.Shape.{Shape}
 
-abbrev pub row : {A : Type 0} → A → ℕ → Case A ℕ
-row call number = row call number
-
 -- ---- lone planes: width, height, the lengths of source and destination
 
 abbrev pub plane : ℕ × ℕ × ℕ × ℕ → ℕ
