@@ -1,0 +1,15 @@
+-- The rows of the table, each by computation. Assumes nothing.
+use mathlib.Core.Path.{refl}
+use Rattle.laws.specs.Cases.{Right}
+use Rattle.laws.specs.Loop.{turns, loop}
+use Rattle.fit.specs.Positions.{body, turn, row, positions, refusalOf, positionsOf}
+use Rattle.fit.specs.Text.{upToSample, walkRow, walkRows, walk}
+use Rattle.fit.specs.Cases.{orders, refusals}
+
+pub orders-right : Right positions orders
+unfolding turns loop body turn row positions
+orders-right = (refl, (refl, tt))
+
+pub refusals-right : Right positionsOf refusals
+unfolding refusalOf positionsOf
+refusals-right = (refl, tt)

@@ -1,0 +1,6 @@
+pub mod Offsets
+pub mod Places
+pub mod Steps
+pub mod Text
+pub mod Order
+pub mod Cases

@@ -1,0 +1,47 @@
+-- The numbers k − l, for k from 0 on: which of them is 0, their order, and a place that lies so far from another. Assumes nothing.
+use mathlib.Core.Path.{_≡_, refl, sym, ap, _∙_, subst}
+use mathlib.Core.Bool.{true, false}
+use mathlib.Core.Logic.{⊎-elim}
+use Prim.Native.Nat.{ℕ, zero, suc, _+_, _-_, _≤_, _<_}
+use native.Mathlib.Nat.{not-suc-le-zero, sub-add-cancel, lt-trans}
+use native.Mathlib.Omega.{arith}
+use borrow.Author.Tests.{lt-ltb, le-ltb}
+use lib.Dec.{eqb, eqb·suc-zero, lt→ltb}
+use lib.IntN.{ℤ, pos, negsuc, negℤ, natAbs, _+ℤ_, _-ℤ_, +ℤ-assoc, +ℤ-comm, +ℤ-invr, -ℤ-+ℤ-cancel, pos-+ℤ-pos}
+use lib.Signed.{_<ℤ_}
+use Rattle.normal.proofs.Order.{lt-or-ge}
+
+-- ---- the sign
+pub below : (k l : ℕ) → k < l → pos k -ℤ pos l ≡ negsuc (l - suc k)
+below k zero h = absurd (not-suc-le-zero h)
+below k (suc l) h = rw (lt-ltb k (suc l) h)
+
+above : (k l : ℕ) → l ≤ k → pos k -ℤ pos l ≡ pos (k - l)
+above k zero h = ap pos (omega arith)
+above k (suc l) h = rw (le-ltb k (suc l) h)
+
+pub is-zero : (l : ℕ) → eqb (natAbs (pos l -ℤ pos l)) 0 ≡ true
+is-zero l = rw (+ℤ-invr (pos l))
+
+pub is-not-zero : (k l : ℕ) → k < l → eqb (natAbs (pos k -ℤ pos l)) 0 ≡ false
+is-not-zero k l h = rw (below k l h) (eqb·suc-zero (l - suc k))
+
+-- ---- the order
+pub offset-lt : (j k l : ℕ) → j < k → (pos j -ℤ pos l) <ℤ (pos k -ℤ pos l)
+offset-lt j k l h = ⊎-elim both (λ u. ⊎-elim (apart u) (neither u) (lt-or-ge j l)) (lt-or-ge k l)
+  where
+    both : k < l → (pos j -ℤ pos l) <ℤ (pos k -ℤ pos l)
+    both u = record { lt = rw (below j l (lt-trans h u), below k l u) (lt→ltb (l - suc k) (l - suc j) (omega arith)) }
+
+    apart : l ≤ k → j < l → (pos j -ℤ pos l) <ℤ (pos k -ℤ pos l)
+    apart u v = record { lt = rw (below j l v, above k l u) tt }
+
+    neither : l ≤ k → l ≤ j → (pos j -ℤ pos l) <ℤ (pos k -ℤ pos l)
+    neither u v = record { lt = rw (above j l v, above k l u) (lt→ltb (j - l) (k - l) (omega arith)) }
+
+-- ---- added
+pub offset-add : (y k l : ℕ) → l ≤ y → pos y +ℤ (pos k -ℤ pos l) ≡ pos (y - l + k)
+offset-add y k l h =
+    ap (λ (n : ℕ). pos n +ℤ (pos k -ℤ pos l)) (sym (sub-add-cancel h))
+    ∙ +ℤ-assoc (pos (y - l)) (pos l) (pos k -ℤ pos l)
+    ∙ ap (λ (z : ℤ). pos (y - l) +ℤ z) (+ℤ-comm (pos l) (pos k -ℤ pos l) ∙ -ℤ-+ℤ-cancel (pos k) (pos l))
