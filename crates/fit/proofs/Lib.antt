@@ -2,5 +2,6 @@ pub mod Offsets
 pub mod Places
 pub mod Steps
 pub mod Text
+pub mod Answers
 pub mod Order
 pub mod Cases

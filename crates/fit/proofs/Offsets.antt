@@ -26,6 +26,9 @@ is-zero l = rw (+ℤ-invr (pos l))
 pub is-not-zero : (k l : ℕ) → k < l → eqb (natAbs (pos k -ℤ pos l)) 0 ≡ false
 is-not-zero k l h = rw (below k l h) (eqb·suc-zero (l - suc k))
 
+pub offset-size : (k l : ℕ) → natAbs (pos k -ℤ pos l) ≤ k + l
+offset-size k l = ⊎-elim (λ h. rw (below k l h) (omega arith)) (λ h. rw (above k l h) (omega arith)) (lt-or-ge k l)
+
 -- ---- the order
 pub offset-lt : (j k l : ℕ) → j < k → (pos j -ℤ pos l) <ℤ (pos k -ℤ pos l)
 offset-lt j k l h = ⊎-elim both (λ u. ⊎-elim (apart u) (neither u) (lt-or-ge j l)) (lt-or-ge k l)
