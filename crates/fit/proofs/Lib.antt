@@ -3,5 +3,6 @@ pub mod Places
 pub mod Steps
 pub mod Text
 pub mod Answers
-pub mod Order
+pub mod Members
+pub mod Neighbours
 pub mod Cases

@@ -2,13 +2,13 @@
 use mathlib.Core.Path.{_≡_, refl, sym, ap, _∙_, subst}
 use mathlib.Core.Bool.{true, false}
 use mathlib.Core.Logic.{⊎-elim}
-use Prim.Native.Nat.{ℕ, zero, suc, _+_, _-_, _≤_, _<_}
-use native.Mathlib.Nat.{not-suc-le-zero, sub-add-cancel, lt-trans}
+use Prim.Native.Nat.{ℕ, zero, suc, _+_, _-_, _≤_, _<_, suc-le-suc}
+use native.Mathlib.Nat.{not-suc-le-zero, sub-add-cancel, lt-trans, le-of-lt, eq-or-lt-of-le}
 use native.Mathlib.Omega.{arith}
 use borrow.Author.Tests.{lt-ltb, le-ltb}
-use lib.Dec.{eqb, eqb·suc-zero, lt→ltb}
-use lib.IntN.{ℤ, pos, negsuc, negℤ, natAbs, _+ℤ_, _-ℤ_, +ℤ-assoc, +ℤ-comm, +ℤ-invr, -ℤ-+ℤ-cancel, pos-+ℤ-pos}
-use lib.Signed.{_<ℤ_}
+use lib.Dec.{T, eqb, eqb·suc-zero, lt→ltb, ltb→lt, leb→le, le→leb}
+use lib.IntN.{ℤ, pos, negsuc, negℤ, natAbs, _+ℤ_, _-ℤ_, +ℤ-assoc, +ℤ-comm, +ℤ-invr, -ℤ-+ℤ-cancel, +ℤ-negℤ-cancel}
+use lib.Signed.{ltZ, leZ, nonNeg, _<ℤ_, _≤ℤ_, ≤ℤ-refl, clashℤ, pos-natAbs}
 use Rattle.normal.proofs.Order.{lt-or-ge}
 
 -- ---- the sign
@@ -41,6 +41,36 @@ offset-lt j k l h = ⊎-elim both (λ u. ⊎-elim (apart u) (neither u) (lt-or-g
 
     neither : l ≤ k → l ≤ j → (pos j -ℤ pos l) <ℤ (pos k -ℤ pos l)
     neither u v = record { lt = rw (above j l v, above k l u) (lt→ltb (j - l) (k - l) (omega arith)) }
+
+lt-le : {a b : ℤ} → a <ℤ b → a ≤ℤ b
+lt-le {a} {b} h = record { le = go a b (h .lt) }
+  where
+    go : (a b : ℤ) → T (ltZ a b) → T (leZ a b)
+    go (pos a) (pos b) t = le→leb a b (le-of-lt (ltb→lt a b t))
+    go (pos a) (negsuc b) t = t
+    go (negsuc a) (pos b) t = tt
+    go (negsuc a) (negsuc b) t = le→leb b a (le-of-lt (ltb→lt b a t))
+
+pub offset-le : (j k l : ℕ) → j ≤ k → (pos j -ℤ pos l) ≤ℤ (pos k -ℤ pos l)
+offset-le j k l h = ⊎-elim (λ e. rw e (≤ℤ-refl (pos k -ℤ pos l))) (λ u. lt-le (offset-lt j k l u)) (eq-or-lt-of-le h)
+
+pub offset-le-back : (j k l : ℕ) → (pos j -ℤ pos l) ≤ℤ (pos k -ℤ pos l) → j ≤ k
+offset-le-back j k l h = ⊎-elim (λ u. clashℤ (offset-lt k j l u) h) (λ u. u) (lt-or-ge k j)
+
+pub offset-lt-back : (j k l : ℕ) → (pos j -ℤ pos l) <ℤ (pos k -ℤ pos l) → j < k
+offset-lt-back j k l h = ⊎-elim (λ u. u) (λ u. clashℤ h (offset-le k j l u)) (lt-or-ge j k)
+
+pub offset-same : (j k l : ℕ) → pos j -ℤ pos l ≡ pos k -ℤ pos l → j ≡ k
+offset-same j k l e = ap natAbs (sym (-ℤ-+ℤ-cancel (pos j) (pos l)) ∙ ap (λ (z : ℤ). z +ℤ pos l) e ∙ -ℤ-+ℤ-cancel (pos k) (pos l))
+
+-- every number from −l on is one of them
+pub offset-of : (l : ℕ) (z : ℤ) → negℤ (pos l) ≤ℤ z → pos (natAbs (z +ℤ pos l)) -ℤ pos l ≡ z
+offset-of l z h = ap (λ (y : ℤ). y -ℤ pos l) (pos-natAbs (z +ℤ pos l) (whole l z (h .le))) ∙ +ℤ-negℤ-cancel z (pos l)
+  where
+    whole : (l : ℕ) (z : ℤ) → T (leZ (negℤ (pos l)) z) → T (nonNeg (z +ℤ pos l))
+    whole l (pos a) t = tt
+    whole zero (negsuc a) t = absurd t
+    whole (suc l) (negsuc a) t = rw (le-ltb (suc l) (suc a) (suc-le-suc (leb→le a l t))) tt
 
 -- ---- added
 pub offset-add : (y k l : ℕ) → l ≤ y → pos y +ℤ (pos k -ℤ pos l) ≡ pos (y - l + k)

@@ -24,12 +24,15 @@ tabulate-then m zero f g h = rw (add-zero, append-nil)
 tabulate-then m (suc n) f g h =
     rw (← append-assoc, tabulate-then m n f g (λ j l. h j (le-trans l (le-suc n))), h n (le-refl (suc n)), add-suc)
 
+-- column j of row k
+pub place-is : (lag k j : ℕ) → j < side lag → placeAt lag (k * side lag + j) ≡ column lag (pos k -ℤ pos lag) j
+place-is lag k j l = rw (digits-div k l, digits-mod k l)
+
 -- k rows, and the first n columns of the next
-pub row-then : (lag k n : ℕ) → n ≤ side lag → tabulate (k * side lag) (placeAt lag) ++ tabulate n (column lag (pos k -ℤ pos lag)) ≡ tabulate (k * side lag + n) (placeAt lag)
-row-then lag k n h = tabulate-then (k * side lag) n (placeAt lag) (column lag (pos k -ℤ pos lag)) (λ j l. there j (le-trans l h))
-  where
-    there : (j : ℕ) → j < side lag → column lag (pos k -ℤ pos lag) j ≡ placeAt lag (k * side lag + j)
-    there j l = rw (digits-div k l, digits-mod k l)
+row-then : (lag k n : ℕ) → n ≤ side lag
+    → tabulate (k * side lag) (placeAt lag) ++ tabulate n (column lag (pos k -ℤ pos lag)) ≡ tabulate (k * side lag + n) (placeAt lag)
+row-then lag k n h =
+    tabulate-then (k * side lag) n (placeAt lag) (column lag (pos k -ℤ pos lag)) (λ j l. sym (place-is lag k j (le-trans l h)))
 
 pub rows-then : (lag k : ℕ) → tabulate (k * side lag) (placeAt lag) ++ tabulate (side lag) (column lag (pos k -ℤ pos lag)) ≡ tabulate (suc k * side lag) (placeAt lag)
 rows-then lag k = row-then lag k (side lag) (le-refl (side lag)) ∙ rw (suc-mul k (side lag))

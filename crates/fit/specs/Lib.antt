@@ -1,3 +1,4 @@
 pub mod Text
 pub mod Positions
+pub mod Neighbours
 pub mod Cases

@@ -38,11 +38,13 @@ unfoldable pub walk : ℕ → List Delta
 unfolding walkRows
 walk lag = walkRows lag (fromMinus lag (lag + 1))
 
--- the filter's sum along a walk, on which n places were passed before: coefficient n times the grain at the next place
-unfoldable pub filtered : (ℕ → ℤ) → (Delta → ℤ) → ℕ → List Delta → ℤ
-filtered coefficient grain n [] = pos 0
-filtered coefficient grain n (p ∷ ps) = coefficient n *ℤ grain p +ℤ filtered coefficient grain (n + 1) ps
+-- the filter's sum for the sample in row y and column x, on a walk that has passed n places: coefficient n times the grain at the next one
+unfoldable pub filtered : (ℕ → ℤ) → (ℤ → ℤ → ℤ) → ℕ → ℕ → ℕ → List Delta → ℤ
+filtered coefficient grain y x n [] = pos 0
+filtered coefficient grain y x n ((deltaRow, deltaCol) ∷ ps) =
+    coefficient n *ℤ grain (pos y +ℤ deltaRow) (pos x +ℤ deltaCol) +ℤ filtered coefficient grain y x (n + 1) ps
 
+-- how many coefficients are read
 abbrev pub numPosLuma : ℕ → ℕ
 numPosLuma lag = 2 * lag * (lag + 1)
 
