@@ -10,6 +10,10 @@ pub orders-right : Right positions orders
 unfolding turns loop body turn row positions
 orders-right = (refl, (refl, tt))
 
+pub walks-right : Right walk orders
+unfolding upToSample walkRow walkRows walk
+walks-right = (refl, (refl, tt))
+
 pub refusals-right : Right positionsOf refusals
 unfolding refusalOf positionsOf
 refusals-right = (refl, tt)

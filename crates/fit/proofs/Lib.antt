@@ -5,4 +5,5 @@ pub mod Text
 pub mod Answers
 pub mod Members
 pub mod Neighbours
+pub mod Filter
 pub mod Cases
