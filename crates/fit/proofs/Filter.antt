@@ -13,7 +13,7 @@ use Rattle.laws.proofs.Sums.{sum-ext}
 use Rattle.laws.proofs.Table.{length-tabulate, getD-tabulate, map-tabulate, tabulate-same}
 use Rattle.normal.specs.Normal.{Picture, side, neighbours, neighbour, factors}
 use Rattle.normal.proofs.Sizes.{neighbours-le}
-use Rattle.fit.specs.Text.{Delta, walk, filtered, numPosLuma, numPosChroma}
+use Rattle.fit.specs.Text.{Delta, walk, coefficientOf, filtered, numPosLuma, numPosChroma}
 use Rattle.fit.specs.Positions.{positions, offsetBy}
 use Rattle.fit.specs.Neighbours.{sample}
 use Rattle.fit.proofs.Offsets.{offset-add}
@@ -41,9 +41,9 @@ module _ (lag y x : ℕ) (rows : lag ≤ y) (columns : lag ≤ x) where
       (tabulate-same (neighbours lag) (λ i. offsetBy f (placeAt lag i) y x) (λ i. neighbour f lag i y x) (λ i l t. f (natAbs (row-at i t)) (natAbs (column-at i t))))
 
   -- ---- the specification's filter
-  module _ (coefficient : ℕ → ℤ) (grain : ℤ → ℤ → ℤ) where
+  module _ (plus128 : ℕ → ℕ) (grain : ℤ → ℤ → ℤ) where
     abbrev along : ℕ → List Delta → ℤ
-    along = filtered coefficient grain y x
+    along = filtered plus128 grain y x
 
     filtered-append : (n : ℕ) (ps qs : List Delta) → along n (ps ++ qs) ≡ along n ps +ℤ along (n + length ps) qs
     unfolding filtered
@@ -52,7 +52,7 @@ module _ (lag y x : ℕ) (rows : lag ≤ y) (columns : lag ≤ x) where
         let e : n + 1 + length ps ≡ n + suc (length ps) = omega arith in
         rw (filtered-append (n + 1) ps qs, e, +ℤ-assoc)
 
-    filtered-table : (m : ℕ) (g : ℕ → Delta) → along 0 (tabulate m g) ≡ sumTo (λ i. coefficient i *ℤ grain (pos y +ℤ g i .0) (pos x +ℤ g i .1)) m
+    filtered-table : (m : ℕ) (g : ℕ → Delta) → along 0 (tabulate m g) ≡ sumTo (λ i. coefficientOf (plus128 i) *ℤ grain (pos y +ℤ g i .0) (pos x +ℤ g i .1)) m
     unfolding filtered sumTo
     filtered-table zero g = refl
     filtered-table (suc m) g =
@@ -60,11 +60,11 @@ module _ (lag y x : ℕ) (rows : lag ≤ y) (columns : lag ≤ x) where
         ∙ rw (filtered-table m g, length-tabulate m g, zero-add m, +ℤ-idr)
 
     pub filter-is : (f : Picture) → ((r q : ℕ) → grain (pos r) (pos q) ≡ f r q)
-        → filtered coefficient grain y x 0 (walk lag) ≡ sumTo (λ i. coefficient i *ℤ neighbour f lag i y x) (numPosLuma lag)
+        → filtered plus128 grain y x 0 (walk lag) ≡ sumTo (λ i. coefficientOf (plus128 i) *ℤ neighbour f lag i y x) (numPosLuma lag)
     filter-is f same =
         ap (along 0) (walk-is lag)
         ∙ filtered-table (neighbours lag) (placeAt lag)
-        ∙ sum-ext _ _ (neighbours lag) (λ i l. ap (λ (z : ℤ). coefficient i *ℤ z) ((λ t. grain (row-at i t) (column-at i t)) ∙ same (y - lag + i / side lag) (x - lag + i % side lag)))
+        ∙ sum-ext _ _ (neighbours lag) (λ i l. ap (λ (z : ℤ). coefficientOf (plus128 i) *ℤ z) ((λ t. grain (row-at i t) (column-at i t)) ∙ same (y - lag + i / side lag) (x - lag + i % side lag)))
 
 -- ---- how many
 pub luma-number : (lag : ℕ) → length (walk lag) ≡ numPosLuma lag

@@ -6,4 +6,5 @@ pub mod Answers
 pub mod Members
 pub mod Neighbours
 pub mod Filter
+pub mod Range
 pub mod Cases

@@ -5,7 +5,7 @@ use Prim.Native.Nat.{ℕ, _+_, _-_, _*_}
 use lib.Dec.{eqb}
 use lib.IntN.{ℤ, pos, natAbs, _+ℤ_, _-ℤ_}
 use lib.ListN.{length, replicate}
-use Rattle.laws.specs.Loop.{turns, loop}
+use Rattle.laws.specs.Loop.{loop}
 use Rattle.frame.specs.Questions.{firstNo, accepted, lagKnown}
 use Rattle.normal.specs.Normal.{Picture}
 use Rattle.fit.specs.declared.positions.Positions.{Positions}
@@ -28,16 +28,13 @@ body dr dc out =
 
 -- `for dc in -l..=l { .. }`: turn k has the number k − l
 unfoldable pub turn : ℕ → ℤ → ℕ → Along → Along
-unfolding body
 turn l dr k s = cond (s .ended) s (body dr (pos k -ℤ pos l) (s .out))
 
 unfoldable pub row : ℕ → ℤ → List Offset → List Offset
-unfolding turns loop turn
 row l dr out = loop 0 (2 * l + 1) (turn l dr) (record { out = out; ended = false }) .out
 
 -- `for dr in -l..=0 { .. }`
 unfoldable pub positions : ℕ → List Offset
-unfolding turns loop row
 positions lag = loop 0 (lag + 1) (λ k. row lag (pos k -ℤ pos lag)) []
 
 -- `noise[(y as i32 + dr) as usize * w + (x as i32 + dc) as usize]`, of a picture by rows and columns
@@ -61,5 +58,4 @@ answered refusal places =
 
 -- "A refused call returns its number, with every other field of the answer zero."
 unfoldable pub positionsOf : ℕ → Positions
-unfolding refusalOf positions
 positionsOf lag = answered (refusalOf lag) (accepted (refusalOf lag) (positions lag) [])

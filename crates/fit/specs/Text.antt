@@ -1,4 +1,4 @@
--- The specification, for any ar_coeff_lag. 7.18.3.3: "deltaRow from −lag to 0, and for each deltaCol from −lag to lag; in the last row the walk stops at deltaCol 0, which is the sample itself." 5.9.30: how many coefficients are read, and what each is.
+-- The specification, for any ar_coeff_lag. 7.18.3.3: deltaRow goes from −lag to 0, and for each deltaCol from −lag to lag; in the last row the walk stops at deltaCol 0, which is the sample itself. 5.9.30: how many coefficients are read, and what each is.
 use mathlib.Core.Bool.{Bool, cond, _&&_}
 use mathlib.Core.List.{List, [], _∷_, _++_, map}
 use Prim.Native.Nat.{ℕ, _+_, _*_}
@@ -25,24 +25,25 @@ upToSample (p ∷ ps) = cond (isSample p) [] (p ∷ upToSample ps)
 
 -- deltaCol from −lag to lag
 unfoldable pub walkRow : ℕ → ℤ → List Delta
-unfolding upToSample
 walkRow lag deltaRow = upToSample (map (λ deltaCol. (deltaRow, deltaCol)) (fromMinus lag (2 * lag + 1)))
 
 unfoldable pub walkRows : ℕ → List ℤ → List Delta
-unfolding walkRow
 walkRows lag [] = []
 walkRows lag (deltaRow ∷ deltaRows) = walkRow lag deltaRow ++ walkRows lag deltaRows
 
 -- deltaRow from −lag to 0
 unfoldable pub walk : ℕ → List Delta
-unfolding walkRows
 walk lag = walkRows lag (fromMinus lag (lag + 1))
 
+-- ar_coeffs_plus_128, a field of 8 bits
+abbrev pub coefficientOf : ℕ → ℤ
+coefficientOf plus128 = pos plus128 -ℤ pos 128
+
 -- the filter's sum for the sample in row y and column x, on a walk that has passed n places: coefficient n times the grain at the next one
-unfoldable pub filtered : (ℕ → ℤ) → (ℤ → ℤ → ℤ) → ℕ → ℕ → ℕ → List Delta → ℤ
-filtered coefficient grain y x n [] = pos 0
-filtered coefficient grain y x n ((deltaRow, deltaCol) ∷ ps) =
-    coefficient n *ℤ grain (pos y +ℤ deltaRow) (pos x +ℤ deltaCol) +ℤ filtered coefficient grain y x (n + 1) ps
+unfoldable pub filtered : (ℕ → ℕ) → (ℤ → ℤ → ℤ) → ℕ → ℕ → ℕ → List Delta → ℤ
+filtered plus128 grain y x n [] = pos 0
+filtered plus128 grain y x n ((deltaRow, deltaCol) ∷ ps) =
+    coefficientOf (plus128 n) *ℤ grain (pos y +ℤ deltaRow) (pos x +ℤ deltaCol) +ℤ filtered plus128 grain y x (n + 1) ps
 
 -- how many coefficients are read
 abbrev pub numPosLuma : ℕ → ℕ
