@@ -1,18 +1,17 @@
 -- What `ar_positions` answers, and how its lists fill: the neighbours' rows and columns by number, and zeros after them. Assumes nothing.
-use mathlib.Core.Path.{_≡_, refl, sym, ap, _∙_}
-use mathlib.Core.List.{List, [], _∷_, _++_, append-assoc}
-use Prim.Native.Nat.{ℕ, zero, suc, _+_, _-_, _*_, _≤_, _<_}
+use mathlib.Core.Path.{_≡_, sym}
+use mathlib.Core.List.{List, [], _++_, append-assoc}
+use Prim.Native.Nat.{ℕ, suc, _+_, _-_, _≤_, _<_}
 use native.Mathlib.Numerals.{add-one}
 use native.Mathlib.Omega.{arith}
 use borrow.Author.Tests.{le-leb, lt-leb}
 use lib.IntN.{ℤ, pos}
-use lib.ListN.{length, set, replicate}
+use lib.ListN.{set, replicate}
 use lib.Seq.{set-at}
 use Rattle.laws.specs.Table.{tabulate}
 use Rattle.laws.proofs.Table.{length-tabulate, map-tabulate}
-use Rattle.normal.specs.Normal.{side, neighbours}
+use Rattle.normal.specs.Normal.{neighbours}
 use Rattle.fit.specs.Positions.{refusalOf, positionsOf, answered}
-use Rattle.fit.specs.declared.positions.Positions.{Positions}
 use Rattle.fit.proofs.Places.{placeAt}
 use Rattle.fit.proofs.Steps.{positions-are}
 

@@ -11,7 +11,7 @@ use Rattle.laws.specs.Sums.{sumTo}
 use Rattle.laws.specs.Table.{tabulate}
 use Rattle.laws.proofs.Sums.{sum-ext}
 use Rattle.laws.proofs.Table.{length-tabulate, getD-tabulate, map-tabulate, tabulate-same}
-use Rattle.normal.specs.Normal.{Picture, side, neighbours, neighbour, factors}
+use Rattle.normal.specs.Normal.{Picture, side, neighbours, neighbour}
 use Rattle.normal.proofs.Sizes.{neighbours-le}
 use Rattle.fit.specs.Text.{Delta, walk, coefficientOf, filtered, numPosLuma, numPosChroma}
 use Rattle.fit.specs.Positions.{positions, offsetBy}

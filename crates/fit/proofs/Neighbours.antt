@@ -1,13 +1,11 @@
 -- Both lists are document 01's neighbours, for every lag (`positions-neighbours`, `walk-neighbours`): by their numbers, which count along the rows. Assumes nothing.
-use mathlib.Core.Path.{_≡_, refl, sym, ap, _∙_, subst}
-use mathlib.Core.List.{List, [], _∷_}
+use mathlib.Core.Path.{_≡_, sym, ap, _∙_, subst}
 use mathlib.Core.Logic.{_⊎_, inl, inr, ⊎-elim}
-use Prim.Native.Nat.{ℕ, zero, suc, _+_, _*_, _/_, _%_, _≤_, _<_, zero-le}
+use Prim.Native.Nat.{ℕ, _+_, _*_, _/_, _%_, _≤_, _<_, zero-le}
 use native.Mathlib.Nat.{le-trans, le-of-lt, le-antisymm, lt-trans, lt-of-lt-of-le, le-of-suc-le-suc, suc-mul, le-div-iff-mul-le, div-mul-le-self, div-lt-iff-lt-mul, mod-lt, div-add-mod'}
 use native.Mathlib.Omega.{arith}
 use lib.Arith.{digits-lt}
 use lib.IntN.{ℤ, pos, negℤ, natAbs, _+ℤ_, _-ℤ_, +ℤ-idl, +ℤ-invr, +ℤ-negℤ-cancel}
-use lib.ListN.{length, getD}
 use lib.Signed.{_<ℤ_, _≤ℤ_, <ℤ-irrefl}
 use Rattle.laws.specs.Table.{tabulate}
 use Rattle.laws.specs.Sets.{In}

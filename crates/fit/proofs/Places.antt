@@ -1,6 +1,6 @@
 -- The neighbours by number: i stands in row i / (2 × lag + 1) − lag and column i % (2 × lag + 1) − lag. A table of them grows row by row. Assumes nothing.
-use mathlib.Core.Path.{_≡_, refl, sym, ap, _∙_}
-use mathlib.Core.List.{List, [], _∷_, _++_, append-nil, append-assoc}
+use mathlib.Core.Path.{_≡_, sym, ap, _∙_}
+use mathlib.Core.List.{_++_, append-nil, append-assoc}
 use Prim.Native.Nat.{ℕ, zero, suc, _+_, _*_, _/_, _%_, _≤_, _<_}
 use native.Mathlib.Nat.{add-zero, add-suc, suc-mul, le-refl, le-trans, le-suc}
 use native.Mathlib.Omega.{arith}

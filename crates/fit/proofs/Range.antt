@@ -1,8 +1,8 @@
 -- The numbers that a coefficient's field can hold are −128 to 127, each of them: those that the quantiser gives. Assumes nothing.
-use mathlib.Core.Path.{_≡_, sym, subst}
-use Prim.Native.Nat.{ℕ, suc, _^_, _<_, zero-le, suc-le-suc}
+use mathlib.Core.Path.{sym, subst}
+use Prim.Native.Nat.{ℕ, _^_, _<_, zero-le, suc-le-suc}
 use native.Mathlib.Nat.{le-of-suc-le-suc}
-use lib.IntN.{ℤ, pos, negℤ, natAbs, _+ℤ_, _-ℤ_}
+use lib.IntN.{ℤ, pos, negℤ, natAbs, _+ℤ_}
 use lib.Signed.{_≤ℤ_}
 use Rattle.float.specs.Coefficient.{Written}
 use Rattle.fit.specs.Text.{coefficientOf}

@@ -1,18 +1,17 @@
 -- The Rust's loops push the neighbours by number: a row without the sample is pushed whole, and the sample's row up to its `break`. Assumes nothing.
 use mathlib.Core.Path.{_≡_, refl, sym, ap, _∙_}
-use mathlib.Core.Bool.{true, false, _&&_}
-use mathlib.Core.List.{List, [], _∷_, _++_, append-nil, append-assoc}
-use Prim.Native.Nat.{ℕ, zero, suc, _+_, _*_, _≤_, _<_, zero-le}
+use mathlib.Core.Bool.{true, false}
+use mathlib.Core.List.{List, [], _++_, append-nil, append-assoc}
+use Prim.Native.Nat.{ℕ, zero, suc, _*_, _≤_, _<_, zero-le}
 use native.Mathlib.Nat.{zero-mul, le-refl, le-trans, le-suc, le-of-lt}
 use native.Mathlib.Numerals.{add-one}
 use native.Mathlib.Omega.{arith}
-use lib.Dec.{eqb}
-use lib.IntN.{ℤ, pos, natAbs, _-ℤ_}
+use lib.IntN.{ℤ, pos, _-ℤ_}
 use Rattle.laws.specs.Loop.{loop}
 use Rattle.laws.specs.Table.{tabulate}
 use Rattle.laws.proofs.Loop.{loop-none, loop-more, loop-fixed}
 use Rattle.normal.specs.Normal.{side, neighbours}
-use Rattle.fit.specs.Positions.{Offset, Along, body, turn, row, positions}
+use Rattle.fit.specs.Positions.{Offset, Along, stops, body, turn, row, positions}
 use Rattle.fit.proofs.Offsets.{is-zero, is-not-zero}
 use Rattle.fit.proofs.Places.{column, placeAt, rows-then, places-then}
 
@@ -24,7 +23,7 @@ open-at out = record { out = out; ended = false }
 
 module _ (lag : ℕ) (dr : ℤ) (out : List Offset) where
   -- n turns, none of which is at the sample
-  pushed : (n : ℕ) → ((j : ℕ) → j < n → (eqb (natAbs dr) 0 && eqb (natAbs (pos j -ℤ pos lag)) 0) ≡ false)
+  pushed : (n : ℕ) → ((j : ℕ) → j < n → stops dr (pos j -ℤ pos lag) ≡ false)
       → loop 0 n (turn lag dr) (open-at out) ≡ open-at (out ++ tabulate n (column lag dr))
   unfolding turn body
   pushed zero h = loop-none 0 0 (turn lag dr) (open-at out) zero-le ∙ rw (append-nil out)

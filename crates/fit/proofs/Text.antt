@@ -1,7 +1,7 @@
 -- The specification's walk visits the neighbours by number: the Rust's list. Assumes nothing.
 use mathlib.Core.Path.{_≡_, refl, sym, ap, _∙_}
-use mathlib.Core.Bool.{true, false, _&&_}
-use mathlib.Core.List.{List, [], _∷_, _++_, map, append-nil, append-assoc}
+use mathlib.Core.Bool.{false}
+use mathlib.Core.List.{List, [], _∷_, _++_, append-nil, append-assoc}
 use Prim.Native.Nat.{ℕ, zero, suc, _+_, _*_, _≤_, _<_}
 use native.Mathlib.Nat.{zero-mul, le-refl, le-trans, le-suc, le-of-lt}
 use native.Mathlib.Numerals.{add-one}

@@ -21,10 +21,13 @@ pub record Along : Type 0 where
   pub out : List Offset
   pub ended : Bool
 
+-- `dr == 0 && dc == 0`
+abbrev pub stops : ℤ → ℤ → Bool
+stops dr dc = eqb (natAbs dr) 0 && eqb (natAbs dc) 0
+
 -- `if dr == 0 && dc == 0 { break; } out.push((dr, dc));`
 unfoldable pub body : ℤ → ℤ → List Offset → Along
-body dr dc out =
-    cond (eqb (natAbs dr) 0 && eqb (natAbs dc) 0) (record { out = out; ended = true }) (record { out = out ++ ((dr, dc) ∷ []); ended = false })
+body dr dc out = cond (stops dr dc) (record { out = out; ended = true }) (record { out = out ++ ((dr, dc) ∷ []); ended = false })
 
 -- `for dc in -l..=l { .. }`: turn k has the number k − l
 unfoldable pub turn : ℕ → ℤ → ℕ → Along → Along

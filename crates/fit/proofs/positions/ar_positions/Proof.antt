@@ -1,12 +1,11 @@
 -- `fit::positions::ar_positions` meets its contract: the lists fill neighbour by neighbour, and the neighbours by number are the Rust's list. Assumes nothing.
 use mathlib.Core.Path.{refl, sym, _∙_}
-use Prim.Native.Nat.{ℕ, _+_, _-_, _*_, _/_, _%_, _≤_, _<_, zero-le}
+use Prim.Native.Nat.{_-_, _≤_, _<_, zero-le}
 use native.Mathlib.Nat.{le-trans, le-of-lt, div-le-self, mod-le}
 use native.Mathlib.Omega.{arith}
 use borrow.Author.Needs.{needs}
 use mir.Syntax.{w32}
 use mir.ValLaws.{toZ-ofZ}
-use Rattle.normal.specs.Normal.{neighbours}
 use Rattle.normal.proofs.Sizes.{neighbours-le}
 use Rattle.fit.proofs.Answers.{Filling, filling-turn, filling-ends, refused}
 use Rattle.fit.proofs.positions.ar_positions.Statement.{statement}

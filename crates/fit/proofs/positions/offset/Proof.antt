@@ -1,10 +1,9 @@
 -- `fit::positions::offset` meets its contract: so small a difference fits an i32. Assumes nothing.
-use mathlib.Core.Path.{_∙_}
-use Prim.Native.Nat.{ℕ, _+_, _≤_, _<_, _^_}
+use Prim.Native.Nat.{ℕ, _≤_}
 use native.Mathlib.Nat.{lt-of-le-of-lt}
 use native.Mathlib.Omega.{arith}
 use borrow.Author.Needs.{needs}
-use lib.IntN.{ℤ, pos, _-ℤ_}
+use lib.IntN.{pos, _-ℤ_}
 use mir.Syntax.{w32}
 use mir.Val.{toZ}
 use Rattle.laws.proofs.Is.{Is, unsigned, minus, again, fits}
