@@ -1,10 +1,1 @@
-pub mod Offsets
-pub mod Places
-pub mod Steps
-pub mod Text
-pub mod Answers
-pub mod Members
-pub mod Neighbours
-pub mod Filter
-pub mod Range
 pub mod Cases

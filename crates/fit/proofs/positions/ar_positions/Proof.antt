@@ -7,7 +7,7 @@ use borrow.Author.Needs.{needs}
 use mir.Syntax.{w32}
 use mir.ValLaws.{toZ-ofZ}
 use Rattle.normal.proofs.Sizes.{neighbours-le}
-use Rattle.fit.proofs.Answers.{Filling, filling-turn, filling-ends, refused}
+use Rattle.fit.proofs.positions.Answers.{Filling, filling-turn, filling-ends, refused}
 use Rattle.fit.proofs.positions.ar_positions.Statement.{statement}
 use Rattle.fit.proofs.positions.ar_positions.Tie as tie
 

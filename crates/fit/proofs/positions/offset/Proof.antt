@@ -7,7 +7,7 @@ use lib.IntN.{pos, _-ℤ_}
 use mir.Syntax.{w32}
 use mir.Val.{toZ}
 use Rattle.laws.proofs.Is.{Is, unsigned, minus, again, fits}
-use Rattle.fit.proofs.Offsets.{offset-size}
+use Rattle.fit.proofs.positions.Offsets.{offset-size}
 use Rattle.fit.proofs.positions.offset.Statement.{statement}
 use Rattle.fit.proofs.positions.offset.Tie as tie
 

@@ -6,7 +6,7 @@ use lib.IntN.{ℤ, pos, negℤ, natAbs, _+ℤ_}
 use lib.Signed.{_≤ℤ_}
 use Rattle.float.specs.Coefficient.{Written}
 use Rattle.fit.specs.Text.{coefficientOf}
-use Rattle.fit.proofs.Offsets.{offset-le, offset-le-back, offset-of}
+use Rattle.fit.proofs.positions.Offsets.{offset-le, offset-le-back, offset-of}
 
 pub coefficient-range : (plus128 : ℕ) → plus128 < 2 ^ 8 → (negℤ (pos 128) ≤ℤ coefficientOf plus128) × (coefficientOf plus128 ≤ℤ pos 127)
 coefficient-range n h = (offset-le 0 n 128 zero-le, offset-le n 255 128 (le-of-suc-le-suc h))

@@ -12,8 +12,8 @@ use Rattle.laws.specs.Table.{tabulate}
 use Rattle.laws.proofs.Table.{length-tabulate, map-tabulate}
 use Rattle.normal.specs.Normal.{neighbours}
 use Rattle.fit.specs.Positions.{refusalOf, positionsOf, answered}
-use Rattle.fit.proofs.Places.{placeAt}
-use Rattle.fit.proofs.Steps.{positions-are}
+use Rattle.fit.proofs.positions.Places.{placeAt}
+use Rattle.fit.proofs.positions.Steps.{positions-are}
 
 -- the first n of f, and zeros
 abbrev filled : (ℕ → ℤ) → ℕ → List ℤ

@@ -12,8 +12,8 @@ use Rattle.laws.specs.Table.{tabulate}
 use Rattle.laws.proofs.Loop.{loop-none, loop-more, loop-fixed}
 use Rattle.normal.specs.Normal.{side, neighbours}
 use Rattle.fit.specs.Positions.{Offset, Along, stops, body, turn, row, positions}
-use Rattle.fit.proofs.Offsets.{is-zero, is-not-zero}
-use Rattle.fit.proofs.Places.{column, placeAt, rows-then, places-then}
+use Rattle.fit.proofs.positions.Offsets.{is-zero, is-not-zero}
+use Rattle.fit.proofs.positions.Places.{column, placeAt, rows-then, places-then}
 
 loop-suc : {S : Type 0} (k : ℕ) (f : ℕ → S → S) (s : S) → loop 0 (suc k) f s ≡ f k (loop 0 k f s)
 loop-suc k f s = ap (λ (n : ℕ). loop 0 n f s) (sym (add-one k)) ∙ loop-more 0 k f s zero-le

@@ -15,11 +15,11 @@ use Rattle.normal.proofs.Order.{lt-or-ge}
 use Rattle.fit.specs.Positions.{Offset, positions}
 use Rattle.fit.specs.Text.{walk}
 use Rattle.fit.specs.Neighbours.{sample, Around, Before, Neighbours}
-use Rattle.fit.proofs.Members.{in-tabulate, tabulate-in, nodup-tabulate}
-use Rattle.fit.proofs.Offsets.{offset-lt, offset-le, offset-lt-back, offset-le-back, offset-same, offset-of}
-use Rattle.fit.proofs.Places.{column, placeAt, place-is, all-rows}
-use Rattle.fit.proofs.Steps.{positions-are}
-use Rattle.fit.proofs.Text.{walk-is-positions}
+use Rattle.fit.proofs.positions.Members.{in-tabulate, tabulate-in, nodup-tabulate}
+use Rattle.fit.proofs.positions.Offsets.{offset-lt, offset-le, offset-lt-back, offset-le-back, offset-same, offset-of}
+use Rattle.fit.proofs.positions.Places.{column, placeAt, place-is, all-rows}
+use Rattle.fit.proofs.positions.Steps.{positions-are}
+use Rattle.fit.proofs.positions.Text.{walk-is-positions}
 
 -- ---- numbers in order have places in order
 digits-order : (s i j : ℕ) → 0 < s → i < j → (i / s < j / s) ⊎ ((i / s ≡ j / s) × (i % s < j % s))

@@ -12,9 +12,9 @@ use Rattle.laws.proofs.Table.{map-tabulate}
 use Rattle.normal.specs.Normal.{side, neighbours}
 use Rattle.fit.specs.Text.{Delta, fromMinus, isSample, upToSample, walkRow, walkRows, walk}
 use Rattle.fit.specs.Positions.{positions}
-use Rattle.fit.proofs.Offsets.{is-zero, is-not-zero}
-use Rattle.fit.proofs.Places.{column, placeAt, tabulate-then, rows-then, places-then}
-use Rattle.fit.proofs.Steps.{positions-are}
+use Rattle.fit.proofs.positions.Offsets.{is-zero, is-not-zero}
+use Rattle.fit.proofs.positions.Places.{column, placeAt, tabulate-then, rows-then, places-then}
+use Rattle.fit.proofs.positions.Steps.{positions-are}
 
 -- places that are not the sample are all visited, before what follows them
 passed : (n : ℕ) (g : ℕ → Delta) (ps : List Delta) → ((j : ℕ) → j < n → isSample (g j) ≡ false)

@@ -16,11 +16,11 @@ use Rattle.normal.proofs.Sizes.{neighbours-le}
 use Rattle.fit.specs.Text.{Delta, walk, coefficientOf, filtered, numPosLuma, numPosChroma}
 use Rattle.fit.specs.Positions.{positions, offsetBy}
 use Rattle.fit.specs.Neighbours.{sample}
-use Rattle.fit.proofs.Offsets.{offset-add}
-use Rattle.fit.proofs.Places.{placeAt}
-use Rattle.fit.proofs.Steps.{positions-are}
-use Rattle.fit.proofs.Text.{walk-is}
-use Rattle.fit.proofs.Neighbours.{walk-neighbours}
+use Rattle.fit.proofs.positions.Offsets.{offset-add}
+use Rattle.fit.proofs.positions.Places.{placeAt}
+use Rattle.fit.proofs.positions.Steps.{positions-are}
+use Rattle.fit.proofs.positions.Text.{walk-is}
+use Rattle.fit.proofs.positions.Neighbours.{walk-neighbours}
 
 -- ---- place i of the list
 pub position-at : (lag i : ℕ) → i < neighbours lag → getD (positions lag) i sample ≡ (pos (i / (2 * lag + 1)) -ℤ pos lag, pos (i % (2 * lag + 1)) -ℤ pos lag)
