@@ -1,4 +1,0 @@
-pub mod Text
-pub mod Positions
-pub mod Neighbours
-pub mod Cases
