@@ -1,0 +1,3 @@
+pub mod Steps
+pub mod Answer
+pub mod Sums
