@@ -40,8 +40,11 @@ fitF plane lag u v = windowF u v lag (plane .height) lag (plane .width - lag)
 unfoldable pub cellOf : (ℕ → ℕ → Float) → ℕ → ℕ → ℕ → Float
 cellOf sum p i j = cond (leb p i) plusZero (cond (leb p j) plusZero (cond (leb i j) (sum i j) (sum j i)))
 
+unfoldable pub rowOf : (ℕ → ℕ → Float) → ℕ → ℕ → Row
+rowOf sum p i = tabulate 25 (cellOf sum p i)
+
 unfoldable pub matrixOf : (ℕ → ℕ → Float) → ℕ → Matrix
-matrixOf sum p = tabulate 25 (λ i. tabulate 25 (cellOf sum p i))
+matrixOf sum p = tabulate 25 (rowOf sum p)
 
 -- `atb[i] += row[i] * t;`
 unfoldable pub valueOf : (ℕ → Float) → ℕ → ℕ → Float

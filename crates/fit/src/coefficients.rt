@@ -18,7 +18,7 @@ fn quantise(x: [f64; 25]) -> [i32; 25]
 }
 
 // The equations solved, and quantised; zeros where there is no solution.
-pub fn coefficients(sums: &[i64], taps: &[i64], squares: i64, n: usize, p: usize) -> [i32; 25]
+pub fn coefficients(sums: &[i64], taps: &[i64], squares: f64, n: usize, p: usize) -> [i32; 25]
     requires { ⌜ Room (now sums) (now taps) n × (p ≤ n + 1) ⌝ }
     ensures { λ r. ⌜ r ≡ exactFit (now (sums .entry)) (now (taps .entry)) squares n p ⌝ }
 {

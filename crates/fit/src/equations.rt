@@ -1,12 +1,11 @@
 // The normal equations in f64, from exact sums of products of n neighbours, the sample and the luma average.
 ghost use mathlib.Core.Path.{_≡_};
 ghost use Prim.Native.Nat.{_+_, _≤_};
-ghost use Rattle.laws.specs.Table.{tabulate};
-ghost use Rattle.fit.specs.Steps.{cellOf, matrixOf, valueOf, rightOf};
+ghost use Rattle.fit.specs.Steps.{cellOf, rowOf, matrixOf, valueOf, rightOf};
 ghost use Rattle.fit.specs.Sums.{Room, sumAt, rightAt};
 
-// Σ factor i × factor j: a whole number, or quarters with one average and sixteenths with two.
-fn sum_at(sums: &[i64], taps: &[i64], squares: i64, n: usize, i: usize, j: usize) -> f64
+// Σ factor i × factor j, from a whole number, or from quarters with one average; `squares` with two.
+fn sum_at(sums: &[i64], taps: &[i64], squares: f64, n: usize, i: usize, j: usize) -> f64
     requires { ⌜ Room (now sums) (now taps) n × (i ≤ n) × (j ≤ n) ⌝ }
     ensures { λ r. ⌜ r ≡ sumAt (now (sums .entry)) (now (taps .entry)) squares n i j ⌝ }
 {
@@ -18,7 +17,7 @@ fn sum_at(sums: &[i64], taps: &[i64], squares: i64, n: usize, i: usize, j: usize
         let quarters = taps[i];
         return std::num::nearest_i64_to_f64(quarters) / 4.0;
     }
-    std::num::nearest_i64_to_f64(squares) / 16.0
+    squares
 }
 
 // Σ factor i × sample.
@@ -35,7 +34,7 @@ fn right_at(sums: &[i64], taps: &[i64], n: usize, i: usize) -> f64
 }
 
 // Row i, column j of the matrix, p of which are used; the lower half is the upper's.
-fn cell(sums: &[i64], taps: &[i64], squares: i64, n: usize, p: usize, i: usize, j: usize) -> f64
+fn cell(sums: &[i64], taps: &[i64], squares: f64, n: usize, p: usize, i: usize, j: usize) -> f64
     requires { ⌜ Room (now sums) (now taps) n × (p ≤ n + 1) ⌝ }
     ensures { λ r. ⌜ r ≡ cellOf (sumAt (now (sums .entry)) (now (taps .entry)) squares n) p i j ⌝ }
 {
@@ -51,9 +50,9 @@ fn cell(sums: &[i64], taps: &[i64], squares: i64, n: usize, p: usize, i: usize, 
     sum_at(sums, taps, squares, n, j, i)
 }
 
-fn matrix_row(sums: &[i64], taps: &[i64], squares: i64, n: usize, p: usize, i: usize) -> [f64; 25]
+fn matrix_row(sums: &[i64], taps: &[i64], squares: f64, n: usize, p: usize, i: usize) -> [f64; 25]
     requires { ⌜ Room (now sums) (now taps) n × (p ≤ n + 1) ⌝ }
-    ensures { λ r. ⌜ r ≡ tabulate 25 (cellOf (sumAt (now (sums .entry)) (now (taps .entry)) squares n) p i) ⌝ }
+    ensures { λ r. ⌜ r ≡ rowOf (sumAt (now (sums .entry)) (now (taps .entry)) squares n) p i ⌝ }
 {
     let mut row = [0.0f64; 25];
     for j in 0..25usize {
@@ -62,7 +61,7 @@ fn matrix_row(sums: &[i64], taps: &[i64], squares: i64, n: usize, p: usize, i: u
     row
 }
 
-pub fn matrix(sums: &[i64], taps: &[i64], squares: i64, n: usize, p: usize) -> [[f64; 25]; 25]
+pub fn matrix(sums: &[i64], taps: &[i64], squares: f64, n: usize, p: usize) -> [[f64; 25]; 25]
     requires { ⌜ Room (now sums) (now taps) n × (p ≤ n + 1) ⌝ }
     ensures { λ r. ⌜ r ≡ matrixOf (sumAt (now (sums .entry)) (now (taps .entry)) squares n) p ⌝ }
 {

@@ -5,8 +5,7 @@ mod planes; // the fit of a plane
 
 ghost use mathlib.Core.Path.{_≡_};
 ghost use Prim.Native.Nat.{_≤_};
-ghost use lib.ListN.{take};
-ghost use Rattle.fit.specs.Answer.{allZero, unfit, fitAnswer};
+ghost use Rattle.fit.specs.Answer.{allZero, firstOf, unfit, fitAnswer};
 use frame::Shape;
 use planes::chroma_fit;
 use planes::luma_fit;
@@ -23,7 +22,7 @@ pub struct Fit {
 
 // The first 24.
 fn first(x: [i32; 25]) -> [i32; 24]
-    ensures { λ r. ⌜ r ≡ take 24 x ⌝ }
+    ensures { λ r. ⌜ r ≡ firstOf x ⌝ }
 {
     let mut out = [0i32; 24];
     for i in 0..24usize {

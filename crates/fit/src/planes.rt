@@ -50,7 +50,7 @@ fn luma_coefficients(
     if std::num::nearest_i64_to_f64(energy) <= 0.0 {
         return [0i32; 25];
     }
-    coefficients(sums, taps, 0i64, n, n)
+    coefficients(sums, taps, 0.0, n, n)
 }
 
 // Luma: zeros where the lag is 0 or the plane is too small, too.
@@ -82,7 +82,7 @@ fn component(
     h: usize,
     lag: usize,
     taps: &[i64],
-    squares: i64,
+    squares: f64,
     sums: &mut [i64],
 ) -> [i32; 25]
     requires { ⌜ Plane w h (now src) (now den) × Window w h lag × (length (now taps) ≡ factors lag) × (length (now sums) ≡ factors lag * factors lag) ⌝ }
@@ -124,7 +124,7 @@ fn chroma_coefficients(
         step: cw,
         stride: 1usize,
     };
-    let squares = normal::tap_sums(
+    let sixteenths = normal::tap_sums(
         src,
         den,
         w,
@@ -141,6 +141,7 @@ fn chroma_coefficients(
         cbtaps,
         crtaps,
     );
+    let squares = std::num::nearest_i64_to_f64(sixteenths) / 16.0;
     let blue = component(cb, dcb, cw, ch, lag, cbtaps, squares, sums);
     let red = component(cr, dcr, cw, ch, lag, crtaps, squares, sums);
     Chroma { cb: blue, cr: red }
