@@ -28,10 +28,10 @@ use Rattle.normal.proofs.Squares.{square-entry}
 use Rattle.normal.proofs.Callers.{rows, luma-over}
 use Rattle.normal.proofs.Bounds.{tap-bound}
 use Rattle.solve.specs.Answer.{solvedOf}
-use Rattle.fit.specs.Steps.{pair, neighbourOf, withTap, fitF, matrixOf, rightOf, solvedFit, coefficientsOf}
+use Rattle.fit.specs.Steps.{pair, neighbourOf, withTap, fitF, energyF, matrixOf, rightOf, solvedFit, coefficientsOf}
 use Rattle.fit.specs.Sums.{four, sumAt, rightAt, exactFit, planeSums}
 use Rattle.fit.proofs.Near.{last-own}
-use Rattle.fit.proofs.FloatEntries.{noise-sum, square-sum, tap-sum, own-sum}
+use Rattle.fit.proofs.FloatEntries.{noise-sum, energy-sum, square-sum, tap-sum, own-sum}
 use Rattle.fit.proofs.Solutions.{matrix-same, right-same}
 
 -- an exact sum over 2 ^ j, divided once
@@ -51,6 +51,11 @@ module _ (source denoised : List ℕ) (w h lag : ℕ) (P : Plane w h source deno
 
   read-own : (i : ℕ) → i ≤ n → ofInt binary64 (at (planeSums source denoised w h lag) (i * (n + 1) + n)) ≡ fitF (pair source denoised w h) lag (neighbourOf (pair source denoised w h) lag i) (own (pair source denoised w h))
   read-own i a = read i n a (omega arith) ∙ ap (fitF (pair source denoised w h) lag (neighbourOf (pair source denoised w h) lag i)) (last-own (pair source denoised w h) lag)
+
+  -- the energy
+  pub energy-exact : ofInt binary64 (at (planeSums source denoised w h lag) (n * (n + 1) + n)) ≡ energyF (pair source denoised w h) lag
+  energy-exact =
+      ap (ofInt binary64) (square-entry (factors lag) (entry (noiseAt source denoised (columnsFrom w 0)) w h lag) refl n n (omega arith) (omega arith)) ∙ sym (energy-sum source denoised w h lag P wide high)
 
   pub luma-exact : (taps : List ℤ) (squares : Float)
       → exactFit (planeSums source denoised w h lag) taps squares n n ≡ coefficientsOf (solvedFit (pair source denoised w h) lag (neighbourOf (pair source denoised w h) lag) n)

@@ -4,3 +4,7 @@ pub mod Near
 pub mod FloatEntries
 pub mod Solutions
 pub mod ExactFit
+pub mod Rooms
+pub mod LumaSteps
+pub mod ChromaSteps
+pub mod Answers

@@ -1,5 +1,5 @@
 -- The coefficients from the solver's answer; and equal sums make equal equations. Assumes nothing.
-use mathlib.Core.Path.{_≡_, refl, sym}
+use mathlib.Core.Path.{_≡_, refl, ap, _∙_}
 use mathlib.Core.Bool.{Bool, true, false, cond}
 use mathlib.Core.List.{List}
 use Prim.Native.Nat.{ℕ, _≤_, _<_}
@@ -27,6 +27,9 @@ module _ (sums taps : List ℤ) (squares : Float) (n p : ℕ) (a : Matrix) (b : 
   no-solution f = rw (← ea, ← eb, ← er, f)
 
 -- ---- the same sums
+pub with-sums : (sums sums′ taps : List ℤ) (squares : Float) (n p : ℕ) (r : List ℤ) → sums ≡ sums′ → r ≡ exactFit sums taps squares n p → r ≡ exactFit sums′ taps squares n p
+with-sums sums sums′ taps squares n p r e d = d ∙ ap (λ (z : List ℤ). exactFit z taps squares n p) e
+
 module _ (sum sum′ : ℕ → ℕ → Float) (p : ℕ) (same : (i j : ℕ) → i ≤ j → j < p → sum i j ≡ sum′ i j) where
   cell-same : (i j : ℕ) → cellOf sum p i j ≡ cellOf sum′ p i j
   unfolding cellOf

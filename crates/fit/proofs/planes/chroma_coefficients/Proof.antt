@@ -1,43 +1,38 @@
+-- `fit::planes::chroma_coefficients` meets its contract: the sums with the luma tap, then each plane. Assumes nothing.
+use mathlib.Core.Path.{_∙_}
+use Rattle.noise.proofs.LineSums.{size}
+use Rattle.fit.proofs.ChromaSteps.{held, squares-are, solved, both}
 use borrow.Author.Needs.{needs}
 use Rattle.fit.proofs.planes.chroma_coefficients.Statement.{statement}
 use Rattle.fit.proofs.planes.chroma_coefficients.Tie as tie
-use Rattle.fit.proofs.planes.chroma_coefficients.Reads as reads
-use Rattle.fit.proofs.planes.chroma_coefficients.Lts as lts
-use Rattle.fit.proofs.planes.component.Reads as component-reads
-use Rattle.normal.proofs.tap_sums.Reads as tap-sums-reads
-use Rattle.std.proofs.num.nearest_i64_to_f64.Reads as nearest-i64-to-f64-reads
 
--- src/planes.rt:127:9
 tap-sums-requires : tie.Need-tap-sums-requires
-tap-sums-requires c κs = ?
+tap-sums-requires c κs = let k = c .before .before .before .before .before .before .before .before .pre in (both _ _ _ _ (k .0) (k .1) (k .2) (k .3) (k .4), k .5, k .6)
 
--- src/planes.rt:144:19
 nearest-i64-to-f64-requires : tie.Need-nearest-i64-to-f64-requires
 nearest-i64-to-f64-requires c κs = search needs
 
--- src/planes.rt:145:9
 component-requires : tie.Need-component-requires
-component-requires c κs = ?
+component-requires c κs = let k = c .before .before .before .before .before .before .before .before .before .before .before .before .before .before .pre in (k .0 .of-chroma, held _ _ _ _ _ _ (k .0) (k .2) (k .3) (k .4), size _ _ (c .before .before .before .before .before .tap-sums .ensures .cb-are), k .7)
 
--- src/planes.rt:146:9
 component-requires-2 : tie.Need-component-requires-2
-component-requires-2 c κs = ?
+component-requires-2 c κs = let k = c .before .before .before .before .before .before .before .before .before .before .before .before .before .before .before .before .before .before .pre in (k .1 .of-chroma, held _ _ _ _ _ _ (k .1) (k .2) (k .3) (k .4), size _ _ (c .before .before .before .before .before .before .before .before .before .tap-sums .ensures .cr-are), c .before .before .before .component .kept .1 .1 .1 .1 .1 .1 .1 .0 ∙ k .7)
 
--- src/planes.rt:102:1
 same-length : tie.Need-same-length
 same-length c = search needs
 
--- src/planes.rt:102:1
 same-length-2 : tie.Need-same-length-2
 same-length-2 c = search needs
 
--- src/planes.rt:102:1
 same-length-3 : tie.Need-same-length-3
 same-length-3 c = search needs
 
--- src/planes.rt:102:1
 returns : tie.Need-returns
-returns c = ?
+returns c =
+    let k = c .before .before .before .before .before .before .before .before .before .before .before .before .before .before .before .before .before .before .before .before .pre in
+    let t = c .before .before .before .before .before .before .before .before .before .before .before .tap-sums .ensures in
+    let z = squares-are _ _ _ _ _ _ (k .0) (k .2) (k .3) (k .4) _ (t .squares-are) _ (c .before .before .before .before .before .before .before .before .nearest-i64-to-f64 .ensures) in
+    (solved _ _ _ _ _ _ (k .0) (k .2) (k .3) (k .4) _ _ _ (t .cb-are) z (c .before .before .before .before .before .component .ensures), solved _ _ _ _ _ _ (k .1) (k .2) (k .3) (k .4) _ _ _ (t .cr-are) z (c .before .component2 .ensures))
 
 pub chroma-coefficients-spec : {M : Type 1} → statement M
 chroma-coefficients-spec =

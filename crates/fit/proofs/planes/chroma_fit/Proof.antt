@@ -1,85 +1,70 @@
+-- `fit::planes::chroma_fit` meets its contract: the tests, and room for the sums. Assumes nothing.
+use mathlib.Core.Path.{sym}
+use native.Mathlib.Nat.{le-trans}
+use native.Mathlib.Omega.{arith}
+use lib.Seq.{length-take-le}
+use Rattle.fit.proofs.Rooms.{factors-few, squared-few}
+use Rattle.fit.proofs.ChromaSteps.{narrow, short}
 use borrow.Author.Needs.{needs}
 use Rattle.fit.proofs.planes.chroma_fit.Statement.{statement}
 use Rattle.fit.proofs.planes.chroma_fit.Tie as tie
-use Rattle.fit.proofs.planes.chroma_fit.Reads as reads
-use Rattle.fit.proofs.planes.chroma_fit.Lts as lts
-use Rattle.fit.proofs.planes.blank_sums.Reads as blank-sums-reads
-use Rattle.fit.proofs.planes.blank_taps.Reads as blank-taps-reads
-use Rattle.fit.proofs.planes.chroma_coefficients.Reads as chroma-coefficients-reads
 
--- src/planes.rt:168:14
 mul-if1 : tie.Need-mul-if1
 mul-if1 c = search needs
 
--- src/planes.rt:169:9
 returns : tie.Need-returns
-returns c = ?
+returns c = (narrow _ _ _ _ _ _ (c .if1 .taken), narrow _ _ _ _ _ _ (c .if1 .taken))
 
--- src/planes.rt:175:9
 returns-2 : tie.Need-returns-2
-returns-2 c = ?
+returns-2 c = (short _ _ _ _ _ _ (c .before .if1 .left) (c .if2 .taken), short _ _ _ _ _ _ (c .before .if1 .left) (c .if2 .taken))
 
--- src/planes.rt:180:22
 blank-taps-requires : tie.Need-blank-taps-requires
 blank-taps-requires c κs = search needs
 
--- src/planes.rt:181:22
 blank-taps-requires-2 : tie.Need-blank-taps-requires-2
 blank-taps-requires-2 c κs = search needs
 
--- src/planes.rt:182:20
 blank-sums-requires : tie.Need-blank-sums-requires
 blank-sums-requires c κs = search needs
 
--- src/planes.rt:183:13
 mul-q : tie.Need-mul-q
 mul-q c = search needs
 
--- src/planes.rt:183:29
 add-q : tie.Need-add-q
 add-q c = search needs
 
--- src/planes.rt:183:13
 mul-q-2 : tie.Need-mul-q-2
-mul-q-2 c = ?
+mul-q-2 c = omega (arith, factors-few (c .before .before .before .before .before .before .before .before .before .before .before .pre .2))
 
--- src/planes.rt:183:13
 add-q-2 : tie.Need-add-q-2
-add-q-2 c = ?
+add-q-2 c = omega (arith, factors-few (c .before .before .before .before .before .before .before .before .before .before .before .pre .2))
 
--- src/planes.rt:184:16
 mul-size : tie.Need-mul-size
-mul-size c = ?
+mul-size c = omega (arith, squared-few (c .before .before .before .before .before .before .before .before .before .before .before .pre .2))
 
--- src/planes.rt:198:9
 array-borrow-prefix-cbtaps : tie.Need-array-borrow-prefix-cbtaps
-array-borrow-prefix-cbtaps c = ?
+array-borrow-prefix-cbtaps c = le-trans (factors-few (c .before .before .before .before .before .before .before .before .before .before .before .pre .2)) (search needs)
 
--- src/planes.rt:198:9
 slice-aggregate-chroma-coefficients : tie.Need-slice-aggregate-chroma-coefficients
-slice-aggregate-chroma-coefficients c = ?
+slice-aggregate-chroma-coefficients c = sym (length-take-le _ (c .before .before .before .blank-taps .result) (array-borrow-prefix-cbtaps (c .before)))
 
--- src/planes.rt:199:9
 array-borrow-prefix-crtaps : tie.Need-array-borrow-prefix-crtaps
-array-borrow-prefix-crtaps c = ?
+array-borrow-prefix-crtaps c = le-trans (factors-few (c .before .before .before .before .before .before .before .before .before .before .before .before .pre .2)) (search needs)
 
--- src/planes.rt:199:9
 slice-aggregate-chroma-coefficients-2 : tie.Need-slice-aggregate-chroma-coefficients-2
-slice-aggregate-chroma-coefficients-2 c = ?
+slice-aggregate-chroma-coefficients-2 c = sym (length-take-le _ (c .before .before .before .blank-taps2 .result) (array-borrow-prefix-crtaps (c .before)))
 
--- src/planes.rt:200:9
 array-borrow-prefix-sums : tie.Need-array-borrow-prefix-sums
-array-borrow-prefix-sums c = ?
+array-borrow-prefix-sums c = le-trans (squared-few (c .before .before .before .before .before .before .before .before .before .before .before .before .before .pre .2)) (search needs)
 
--- src/planes.rt:200:9
 slice-aggregate-chroma-coefficients-3 : tie.Need-slice-aggregate-chroma-coefficients-3
-slice-aggregate-chroma-coefficients-3 c = ?
+slice-aggregate-chroma-coefficients-3 c = sym (length-take-le _ (c .before .before .before .blank-sums .result) (array-borrow-prefix-sums (c .before)))
 
--- src/planes.rt:185:5
 chroma-coefficients-requires : tie.Need-chroma-coefficients-requires
-chroma-coefficients-requires c κs = ?
+chroma-coefficients-requires c κs =
+    let k = c .before .before .before .before .before .before .before .before .before .before .before .before .before .before .pre in
+    (k .0, k .1, search needs, search needs, k .2, sym (slice-aggregate-chroma-coefficients (c .before .before)), sym (slice-aggregate-chroma-coefficients-2 (c .before)), sym (slice-aggregate-chroma-coefficients-3 c))
 
--- src/planes.rt:151:1
 returns-3 : tie.Need-returns-3
 returns-3 c = search needs
 

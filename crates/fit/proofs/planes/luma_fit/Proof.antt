@@ -1,77 +1,64 @@
+-- `fit::planes::luma_fit` meets its contract: the tests, and room for the sums. Assumes nothing.
+use mathlib.Core.Path.{sym}
+use native.Mathlib.Nat.{le-trans}
+use native.Mathlib.Omega.{arith}
+use lib.Seq.{length-take-le}
+use Rattle.fit.proofs.Rooms.{factors-few, squared-few}
+use Rattle.fit.proofs.LumaSteps.{lag-zero, narrow, short}
 use borrow.Author.Needs.{needs}
 use Rattle.fit.proofs.planes.luma_fit.Statement.{statement}
 use Rattle.fit.proofs.planes.luma_fit.Tie as tie
-use Rattle.fit.proofs.planes.luma_fit.Reads as reads
-use Rattle.fit.proofs.planes.luma_fit.Lts as lts
-use Rattle.fit.proofs.planes.blank_sums.Reads as blank-sums-reads
-use Rattle.fit.proofs.planes.blank_taps.Reads as blank-taps-reads
-use Rattle.fit.proofs.planes.luma_coefficients.Reads as luma-coefficients-reads
 
--- src/planes.rt:62:9
 returns : tie.Need-returns
-returns c = ?
+returns c = lag-zero _ _ _ _ _ (c .if1 .taken)
 
--- src/planes.rt:64:13
 mul-if2 : tie.Need-mul-if2
 mul-if2 c = search needs
 
--- src/planes.rt:65:9
 returns-2 : tie.Need-returns-2
-returns-2 c = ?
+returns-2 c = narrow _ _ _ _ _ (c .before .if1 .left) (c .if2 .taken)
 
--- src/planes.rt:68:9
 returns-3 : tie.Need-returns-3
-returns-3 c = ?
+returns-3 c = short _ _ _ _ _ (c .before .before .if1 .left) (c .before .if2 .left) (c .if3 .taken)
 
--- src/planes.rt:70:20
 blank-sums-requires : tie.Need-blank-sums-requires
 blank-sums-requires c κs = search needs
 
--- src/planes.rt:71:16
 blank-taps-requires : tie.Need-blank-taps-requires
 blank-taps-requires c κs = search needs
 
--- src/planes.rt:72:13
 mul-q : tie.Need-mul-q
 mul-q c = search needs
 
--- src/planes.rt:72:29
 add-q : tie.Need-add-q
 add-q c = search needs
 
--- src/planes.rt:72:13
 mul-q-2 : tie.Need-mul-q-2
-mul-q-2 c = ?
+mul-q-2 c = omega (arith, factors-few (c .before .before .before .before .before .before .before .pre .3))
 
--- src/planes.rt:72:13
 add-q-2 : tie.Need-add-q-2
-add-q-2 c = ?
+add-q-2 c = omega (arith, factors-few (c .before .before .before .before .before .before .before .pre .3))
 
--- src/planes.rt:73:16
 mul-size : tie.Need-mul-size
-mul-size c = ?
+mul-size c = omega (arith, squared-few (c .before .before .before .before .before .before .before .pre .3))
 
--- src/planes.rt:74:44
 array-share-prefix-taps : tie.Need-array-share-prefix-taps
-array-share-prefix-taps c = ?
+array-share-prefix-taps c = le-trans (factors-few (c .before .before .before .before .before .before .before .pre .3)) (search needs)
 
--- src/planes.rt:74:44
 slice-aggregate-luma-coefficients : tie.Need-slice-aggregate-luma-coefficients
-slice-aggregate-luma-coefficients c = ?
+slice-aggregate-luma-coefficients c = sym (length-take-le _ (c .before .blank-taps .result) (array-share-prefix-taps (c .before)))
 
--- src/planes.rt:74:56
 array-borrow-prefix-sums : tie.Need-array-borrow-prefix-sums
-array-borrow-prefix-sums c = ?
+array-borrow-prefix-sums c = le-trans (squared-few (c .before .before .before .before .before .before .before .before .pre .3)) (search needs)
 
--- src/planes.rt:74:56
 slice-aggregate-luma-coefficients-2 : tie.Need-slice-aggregate-luma-coefficients-2
-slice-aggregate-luma-coefficients-2 c = ?
+slice-aggregate-luma-coefficients-2 c = sym (length-take-le _ (c .before .before .before .blank-sums .result) (array-borrow-prefix-sums (c .before)))
 
--- src/planes.rt:74:5
 luma-coefficients-requires : tie.Need-luma-coefficients-requires
-luma-coefficients-requires c κs = ?
+luma-coefficients-requires c κs =
+    let k = c .before .before .before .before .before .before .before .before .before .pre in
+    (k .0, search needs, search needs, k .1, k .2, search needs, k .3, sym (slice-aggregate-luma-coefficients (c .before)), sym (slice-aggregate-luma-coefficients-2 c))
 
--- src/planes.rt:57:1
 returns-4 : tie.Need-returns-4
 returns-4 c = search needs
 
