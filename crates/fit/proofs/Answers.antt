@@ -24,7 +24,7 @@ module _ (s : Shape) (y cb cr dy dcb dcr : List ℕ) (lag n : ℕ) (asked : n �
   refused z = rw (← asked) (sym (refusal.refused n _ _ z))
 
   module _ (z : n ≡ 0) where
-    accepted-is : fitOf s y cb cr dy dcb dcr lag ≡ fitAnswer s y cb cr dy dcb dcr lag
+    pub accepted-is : fitOf s y cb cr dy dcb dcr lag ≡ fitAnswer s y cb cr dy dcb dcr lag
     unfolding fitAnswer
     accepted-is = sym (refusal.granted (fitRefusal s y cb cr dy dcb dcr lag) _ _ (sym asked ∙ z))
 

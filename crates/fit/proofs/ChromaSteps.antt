@@ -20,9 +20,11 @@ use Rattle.noise.specs.Average.{Luma, quarters}
 use Rattle.noise.specs.Grids.{noiseAt}
 use Rattle.noise.specs.AverageSums.{Component}
 use Rattle.noise.proofs.Grids.{columnsFrom}
+use Rattle.noise.specs.declared.rows.Grid.{Grid}
+use Rattle.noise.proofs.LineSums.{size}
 use Rattle.noise.proofs.ChromaSums as chroma
 use Rattle.normal.specs.Normal.{neighbours, factors, tapEntry, tapSquare}
-use Rattle.normal.specs.Calls.{Window, Planes}
+use Rattle.normal.specs.Calls.{Window, Planes, TapSums}
 use Rattle.normal.proofs.Callers.{window, rows, luma-over}
 use Rattle.normal.proofs.Bounds.{square-bound}
 use Rattle.fit.specs.Steps.{pair, zeros, chromaFit}
@@ -84,3 +86,11 @@ both l cw ch lag K J wide high few = record {
   cr-rows = rows (J .of-chroma);
   window = held l _ _ cw ch lag K wide high few;
 }
+
+-- their sums with the tap have a place for each factor
+module _ {l : Luma} {b db r dr : List ℕ} {g : Grid} {cw ch lag : ℕ} {squares : ℤ} {blue red : List ℤ} (T : TapSums l b db r dr g cw ch lag squares blue red) where
+  pub blue-size : length blue ≡ factors lag
+  blue-size = size (factors lag) _ (T .cb-are)
+
+  pub red-size : length red ≡ factors lag
+  red-size = size (factors lag) _ (T .cr-are)

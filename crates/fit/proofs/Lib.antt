@@ -8,3 +8,5 @@ pub mod Rooms
 pub mod LumaSteps
 pub mod ChromaSteps
 pub mod Answers
+pub mod Energy
+pub mod NoFit

@@ -28,7 +28,7 @@ none-of : (b : Bool) → (b && false) ≡ false
 none-of true = refl
 none-of false = refl
 
-no-size : (z : ℤ) → natAbs z ≡ 0 → z ≡ pos 0
+pub no-size : (z : ℤ) → natAbs z ≡ 0 → z ≡ pos 0
 no-size (pos n) e = ap pos e
 no-size (negsuc n) e = absurd (omega arith)
 

@@ -1,3 +1,4 @@
 pub mod Steps
 pub mod Answer
 pub mod Sums
+pub mod Words

@@ -1,7 +1,6 @@
 -- `fit::planes::chroma_coefficients` meets its contract: the sums with the luma tap, then each plane. Assumes nothing.
 use mathlib.Core.Path.{_∙_}
-use Rattle.noise.proofs.LineSums.{size}
-use Rattle.fit.proofs.ChromaSteps.{held, squares-are, solved, both}
+use Rattle.fit.proofs.ChromaSteps.{held, squares-are, solved, both, blue-size, red-size}
 use borrow.Author.Needs.{needs}
 use Rattle.fit.proofs.planes.chroma_coefficients.Statement.{statement}
 use Rattle.fit.proofs.planes.chroma_coefficients.Tie as tie
@@ -13,10 +12,10 @@ nearest-i64-to-f64-requires : tie.Need-nearest-i64-to-f64-requires
 nearest-i64-to-f64-requires c κs = search needs
 
 component-requires : tie.Need-component-requires
-component-requires c κs = let k = c .before .before .before .before .before .before .before .before .before .before .before .before .before .before .pre in (k .0 .of-chroma, held _ _ _ _ _ _ (k .0) (k .2) (k .3) (k .4), size _ _ (c .before .before .before .before .before .tap-sums .ensures .cb-are), k .7)
+component-requires c κs = let k = c .before .before .before .before .before .before .before .before .before .before .before .before .before .before .pre in (k .0 .of-chroma, held _ _ _ _ _ _ (k .0) (k .2) (k .3) (k .4), blue-size (c .before .before .before .before .before .tap-sums .ensures), k .7)
 
 component-requires-2 : tie.Need-component-requires-2
-component-requires-2 c κs = let k = c .before .before .before .before .before .before .before .before .before .before .before .before .before .before .before .before .before .before .pre in (k .1 .of-chroma, held _ _ _ _ _ _ (k .1) (k .2) (k .3) (k .4), size _ _ (c .before .before .before .before .before .before .before .before .before .tap-sums .ensures .cr-are), c .before .before .before .component .kept .1 .1 .1 .1 .1 .1 .1 .0 ∙ k .7)
+component-requires-2 c κs = let k = c .before .before .before .before .before .before .before .before .before .before .before .before .before .before .before .before .before .before .pre in (k .1 .of-chroma, held _ _ _ _ _ _ (k .1) (k .2) (k .3) (k .4), red-size (c .before .before .before .before .before .before .before .before .before .tap-sums .ensures), c .before .before .before .component .kept .1 .1 .1 .1 .1 .1 .1 .0 ∙ k .7)
 
 same-length : tie.Need-same-length
 same-length c = search needs
