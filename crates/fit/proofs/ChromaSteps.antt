@@ -5,7 +5,7 @@ use mathlib.Core.List.{List}
 use Prim.Native.Nat.{ℕ, _*_, _^_, _≤_, _<_}
 use native.Mathlib.Nat.{le-trans, le-of-lt, lt-of-le-of-lt, mul-pos}
 use native.Mathlib.Omega.{arith}
-use lib.Dec.{eqb, lit≤, lit<}
+use lib.Dec.{eqb, leb, lit≤, lit<}
 use lib.IntN.{ℤ}
 use lib.ListN.{length}
 use lib.Ieee.{Float, binary64, div, ofInt, ofBits}
@@ -44,9 +44,9 @@ module _ (l : Luma) (source denoised : List ℕ) (cw ch lag : ℕ) where
   unfolding chromaFit
   narrow a = rw (le-leb cw (2 * lag) a, any (eqb (length source) 0))
 
-  pub short : 2 * lag < cw → ch ≤ lag → zeros ≡ chromaFit l (pair source denoised cw ch) lag
+  pub short : ch ≤ lag → zeros ≡ chromaFit l (pair source denoised cw ch) lag
   unfolding chromaFit
-  short a b = rw (lt-leb cw (2 * lag) a, le-leb ch lag b, any (eqb (length source) 0))
+  short a = rw (le-leb ch lag a, any (leb cw (2 * lag)), any (eqb (length source) 0))
 
   module _ (K : Component l source denoised cw ch) (wide : 2 * lag < cw) (high : lag < ch) (few : lag ≤ 3) where
     pub held : Window cw ch lag

@@ -10,3 +10,9 @@ pub mod ChromaSteps
 pub mod Answers
 pub mod Energy
 pub mod NoFit
+pub mod EachFit
+pub mod NoChroma
+pub mod OnlyCr
+pub mod Range
+pub mod Unused
+pub mod RustMatrix

@@ -16,7 +16,7 @@ returns : tie.Need-returns
 returns c = (narrow _ _ _ _ _ _ (c .if1 .taken), narrow _ _ _ _ _ _ (c .if1 .taken))
 
 returns-2 : tie.Need-returns-2
-returns-2 c = (short _ _ _ _ _ _ (c .before .if1 .left) (c .if2 .taken), short _ _ _ _ _ _ (c .before .if1 .left) (c .if2 .taken))
+returns-2 c = (short _ _ _ _ _ _ (c .if2 .taken), short _ _ _ _ _ _ (c .if2 .taken))
 
 blank-taps-requires : tie.Need-blank-taps-requires
 blank-taps-requires c κs = search needs
