@@ -16,3 +16,4 @@ pub mod OnlyCr
 pub mod Range
 pub mod Unused
 pub mod RustMatrix
+pub mod Demand
