@@ -22,7 +22,7 @@ use Rattle.noise.proofs.FitWindow.{fit-sum, in-quarters}
 use Rattle.normal.specs.Normal.{Picture, side, neighbours, factors, neighbour, windowSum, entry, tapEntry, tapSquare}
 use Rattle.normal.proofs.Bounds.{window-rows, window-ext, window-swap}
 use Rattle.fit.specs.Steps.{pair, neighbourOf, fitF, energyF}
-use Rattle.fit.proofs.Near.{neighbour-near, last-own, neighbour-noise}
+use Rattle.fit.proofs.Near.{counted, is-counted, counted-near, last-own, counted-noise}
 
 module _ (source denoised : List ℕ) (w h lag : ℕ) where
   abbrev plane : Pair
@@ -40,8 +40,9 @@ module _ (source denoised : List ℕ) (w h lag : ℕ) where
   unfolding fitF
   noise-sum P n l i j a b =
       let S : Limited frameSamples frameTop (own plane) = plane-samples w h source denoised n l P in
-      fit-sum frameSamples frameTop plane (neighbourOf plane lag i) (neighbourOf plane lag j) (frame-held (neighbourOf plane lag i) (neighbourOf plane lag j)) S S lag (neighbour-near plane lag i a) (neighbour-near plane lag j b)
-      ∙ ap (ofScaled 0) (sym (window-rows w h lag (reached i) (reached j)) ∙ window-ext w h lag _ _ _ _ (λ y x. neighbour-noise source denoised w h lag i y x) (λ y x. neighbour-noise source denoised w h lag j y x))
+      (λ t. fitF plane lag (is-counted plane lag i a t) (is-counted plane lag j b t))
+      ∙ fit-sum frameSamples frameTop plane (counted plane lag i) (counted plane lag j) (frame-held (counted plane lag i) (counted plane lag j)) S S lag (counted-near plane lag i a) (counted-near plane lag j b)
+      ∙ ap (ofScaled 0) (sym (window-rows w h lag (reached i) (reached j)) ∙ window-ext w h lag _ _ _ _ (λ y x. counted-noise source denoised w h lag i y x) (λ y x. counted-noise source denoised w h lag j y x))
       ∙ scaled-int (entry noises w h lag i j)
 
   pub energy-sum : Plane w h source denoised → w ≤ 4096 → h ≤ 4096 → energyF plane lag ≡ ofInt binary64 (entry noises w h lag (neighbours lag) (neighbours lag))
@@ -66,19 +67,21 @@ module _ (source denoised : List ℕ) (w h lag : ℕ) where
       S = plane-samples w h source denoised n s P
 
       is-neighbour : (y x : ℕ) → lag ≤ y → lag ≤ x → reached i y x ≡ neighbour noises lag i y x
-      is-neighbour y x = neighbour-noise source denoised w h lag i y x
+      is-neighbour y x = counted-noise source denoised w h lag i y x
 
       pub tap-sum : fitF plane lag (neighbourOf plane lag i) (average l) ≡ ofScaled 2 (tapEntry noises (quarters l) w h lag i)
       unfolding fitF
       tap-sum =
-          fit-sum frameSamples frameTop plane (neighbourOf plane lag i) (average l) (frame-held (neighbourOf plane lag i) (average l)) S L lag (neighbour-near plane lag i a) tapped
+          (λ t. fitF plane lag (is-counted plane lag i a t) (average l))
+          ∙ fit-sum frameSamples frameTop plane (counted plane lag i) (average l) (frame-held (counted plane lag i) (average l)) S L lag (counted-near plane lag i a) tapped
           ∙ in-quarters (λ y x. reached i (lag + y) (lag + x) *ℤ quarters l (lag + y) (lag + x)) (h - lag) (w - lag - lag)
           ∙ ap (ofScaled 2) (sym (window-rows w h lag (reached i) (quarters l)) ∙ window-ext w h lag _ _ _ _ is-neighbour (λ y x c d. refl))
 
       tap-first : fitF plane lag (average l) (neighbourOf plane lag i) ≡ ofScaled 2 (tapEntry noises (quarters l) w h lag i)
       unfolding fitF
       tap-first =
-          fit-sum frameSamples frameTop plane (average l) (neighbourOf plane lag i) (frame-held (average l) (neighbourOf plane lag i)) L S lag tapped (neighbour-near plane lag i a)
+          (λ t. fitF plane lag (average l) (is-counted plane lag i a t))
+          ∙ fit-sum frameSamples frameTop plane (average l) (counted plane lag i) (frame-held (average l) (counted plane lag i)) L S lag tapped (counted-near plane lag i a)
           ∙ in-quarters (λ y x. quarters l (lag + y) (lag + x) *ℤ reached i (lag + y) (lag + x)) (h - lag) (w - lag - lag)
           ∙ ap (ofScaled 2) (sym (window-rows w h lag (quarters l) (reached i)) ∙ window-ext w h lag _ _ _ _ (λ y x c d. refl) is-neighbour ∙ window-swap w h lag (quarters l) (neighbour noises lag i))
 

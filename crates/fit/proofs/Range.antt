@@ -1,14 +1,13 @@
 -- 5.9.30: each coefficient of every answer, plus 128, is a field of 8 bits. Assumes nothing.
 use mathlib.Core.Path.{_≡_, refl, sym, subst}
 use mathlib.Core.Bool.{Bool, true, false, cond}
-use mathlib.Core.List.{List, [], _∷_}
-use Prim.Native.Nat.{ℕ, zero, suc, _≤_}
+use mathlib.Core.List.{List}
+use Prim.Native.Nat.{ℕ, zero, suc}
 use native.Mathlib.Nat.{lt-of-not-le}
 use native.Mathlib.Decide.{decLe}
-use native.Mathlib.Omega.{arith}
 use lib.Dec.{lit<}
 use lib.IntN.{ℤ, pos}
-use lib.ListN.{length, getD, replicate}
+use lib.ListN.{getD, replicate, List·getD-eq-default}
 use Rattle.laws.specs.Table.{tabulate}
 use Rattle.laws.proofs.Table.{getD-tabulate, length-tabulate}
 use Rattle.frame.specs.declared.Shape.{Shape}
@@ -29,11 +28,6 @@ AllWritten x = (i : ℕ) → Written (getD x i (pos 0))
 zero-written : Written (pos 0)
 zero-written = record { field = 128; bits = lit< tt; is = refl }
 
-past-end : (x : List ℤ) (i : ℕ) → length x ≤ i → getD x i (pos 0) ≡ pos 0
-past-end [] i h = refl
-past-end (z ∷ x) zero h = absurd (omega arith)
-past-end (z ∷ x) (suc i) h = past-end x i (omega arith)
-
 zeros-written : (n : ℕ) → AllWritten (replicate n (pos 0))
 zeros-written zero i = zero-written
 zeros-written (suc n) zero = zero-written
@@ -42,7 +36,7 @@ zeros-written (suc n) (suc i) = zeros-written n i
 table-written : (n : ℕ) (f : ℕ → ℤ) → ((i : ℕ) → Written (f i)) → AllWritten (tabulate n f)
 table-written n f h i =
     elim (decLe n i) [
-      | yes l ↦ subst Written (sym (past-end (tabulate n f) i (rw (length-tabulate n f) l))) zero-written
+      | yes l ↦ subst Written (sym (List·getD-eq-default (tabulate n f) (pos 0) (rw (length-tabulate n f) l))) zero-written
       | no l ↦ subst Written (sym (getD-tabulate n f i (pos 0) (lt-of-not-le l))) (h i)
     ]
 

@@ -2,10 +2,10 @@
 -- The steps of the Rust's `ls_fit_ar` and of the closure `fit_chroma` in `fit_ar_lag`, each under its line; p is the order. Its matrix is the used part of 25 rows of 25 f64.
 use mathlib.Core.Bool.{Bool, cond, _||_}
 use mathlib.Core.List.{List}
-use Prim.Native.Nat.{ℕ, _-_, _*_, _/_, _%_}
+use Prim.Native.Nat.{ℕ, _-_, _*_}
 use lib.Dec.{eqb, leb, ltb}
-use lib.IntN.{ℤ, pos, _-ℤ_}
-use lib.ListN.{length, replicate}
+use lib.IntN.{ℤ, pos}
+use lib.ListN.{length, getD, replicate}
 use lib.Ieee.{Float, le}
 use Rattle.laws.specs.Scaled.{plusZero}
 use Rattle.laws.specs.Table.{tabulate}
@@ -13,7 +13,9 @@ use Rattle.float.specs.Steps.{quantAr}
 use Rattle.noise.specs.Average.{Luma}
 use Rattle.noise.specs.Products.{Pair, Factor, noiseFrom, average, own}
 use Rattle.noise.specs.Steps.{windowF}
-use Rattle.normal.specs.Normal.{side, neighbours, factors}
+use Rattle.normal.specs.Normal.{neighbours, factors}
+use Rattle.positions.specs.Positions.{positions}
+use Rattle.positions.specs.Neighbours.{sample}
 use Rattle.solve.specs.Elimination.{Row, Matrix, value}
 use Rattle.solve.specs.Answer.{solvedOf}
 use Rattle.solve.specs.declared.Solved.{Solved}
@@ -22,9 +24,9 @@ use Rattle.solve.specs.declared.Solved.{Solved}
 abbrev pub pair : List ℕ → List ℕ → ℕ → ℕ → Pair
 pair source denoised w h = record { source = source; denoised = denoised; width = w; height = h }
 
--- `pos[i]`: the noise of neighbour i, which stands in row i / (2×lag+1) and column i % (2×lag+1) after the first, lag rows above and lag columns to the left
+-- `pos[i]`: the noise of neighbour i, by its row and column from the sample; past the last neighbour the sample's own
 abbrev pub neighbourOf : Pair → ℕ → ℕ → Factor
-neighbourOf plane lag i = noiseFrom plane (pos (i / side lag) -ℤ pos lag) (pos (i % side lag) -ℤ pos lag)
+neighbourOf plane lag i = let p = getD (positions lag) i sample in noiseFrom plane (p .0) (p .1)
 
 -- `row.push(luma_at(y0, x0));`
 abbrev pub withTap : Luma → Pair → ℕ → ℕ → Factor
