@@ -1,4 +1,4 @@
--- `noise::rows::row_products` meets its contract: both lines hold the noise, and `dot` sums their products. Assumes nothing.
+-- `noise::rows::row_pair` meets its contract: both lines hold the noise, and `dot` sums their products. Assumes nothing.
 use mathlib.Core.Path.{_≡_, sym, _∙_, subst}
 use Prim.Native.Nat.{ℕ, _+_, _*_, _^_}
 use borrow.Author.Needs.{needs}
@@ -9,8 +9,8 @@ use Rattle.noise.specs.Noise.{noise}
 use Rattle.noise.specs.Lines.{Places}
 use Rattle.noise.proofs.Lines.{looser}
 use Rattle.noise.proofs.NoiseSums.{noise-lines, noise-sum}
-use Rattle.noise.proofs.rows.row_products.Statement.{statement}
-use Rattle.noise.proofs.rows.row_products.Tie as tie
+use Rattle.noise.proofs.rows.row_pair.Statement.{statement}
+use Rattle.noise.proofs.rows.row_pair.Tie as tie
 
 noise-line-requires : tie.Need-noise-line-requires
 noise-line-requires c κs = looser (c .before .before .before .before .before .pre .0)
@@ -32,8 +32,13 @@ second c =
 
 dot-requires : tie.Need-dot-requires
 dot-requires c κs =
-    let S = c .before .before .before .before .before .before .before .before .before .before .before .before in
-    noise-lines (S .pre .0) (S .pre .1) (c .before .before .before .before .before .before .noise-line .ensures) (second (c .before .before)) (S .pre .2)
+    let S = c .before .before .before .before .before .before .before .before .before .before .before in
+    noise-lines (S .pre .1) (S .pre .1) (second (c .before)) (second (c .before)) (S .pre .2)
+
+dot-requires-2 : tie.Need-dot-requires-2
+dot-requires-2 c κs =
+    let S = c .before .before .before .before .before .before .before .before .before .before .before .before .before in
+    noise-lines (S .pre .0) (S .pre .1) (c .before .before .before .before .before .before .before .noise-line .ensures) (second (c .before .before .before)) (S .pre .2)
 
 same-length : tie.Need-same-length
 same-length c = search needs
@@ -43,18 +48,21 @@ same-length-2 c = search needs
 
 returns : tie.Need-returns
 returns c =
-    let S = c .before .before .before .before .before .before .before .before .before .before .before .before .before in
-    again (self (record { sfits = c .dot .ok })) .eq
-    ∙ c .dot .ensures
-    ∙ noise-sum (S .pre .0) (S .pre .1) (c .before .before .before .before .before .before .before .noise-line .ensures) (second (c .before .before .before))
+    let S = c .before .before .before .before .before .before .before .before .before .before .before .before .before .before in
+    let q = second (c .before .before .before .before) in
+    let d = c .before .before .dot in (
+      again (self (record { sfits = d .ok })) .eq ∙ d .ensures ∙ noise-sum (S .pre .1) (S .pre .1) q q,
+      again (self (record { sfits = c .dot2 .ok })) .eq ∙ c .dot2 .ensures ∙ noise-sum (S .pre .0) (S .pre .1) (c .before .before .before .before .before .before .before .before .noise-line .ensures) q,
+    )
 
-pub row-products-spec : {M : Type 1} → statement M
-row-products-spec =
+pub row-pair-spec : {M : Type 1} → statement M
+row-pair-spec =
     tie.close
     (tie.spec
     noise-line-requires
     noise-line-requires-2
     dot-requires
+    dot-requires-2
     same-length
     same-length-2
     returns)
