@@ -86,7 +86,7 @@ module _ {line : List ℤ} (L : NoiseLine line) {lag : ℕ} (l : lag ≤ length 
       ∙ sum-ext (product front back) (λ i. at line i *ℤ at line (i + lag)) count (λ i h j. front-at i h j *ℤ back-at i h j)
 
 -- ---- shifted
-shifted-le : (shift : ℕ) (z : ℤ) → natAbs z ≤ 4095 → natAbs (shifted shift z) ≤ 4096
+pub shifted-le : (shift : ℕ) (z : ℤ) → natAbs z ≤ 4095 → natAbs (shifted shift z) ≤ 4096
 shifted-le shift (pos n) h = le-trans (mag-shr (pos n) (2 ^ shift)) (le-trans h (lit≤ tt))
 shifted-le shift (negsuc n) h = let d : n / 2 ^ shift ≤ n = mag-shr (negsuc n) (2 ^ shift) in omega arith
 
