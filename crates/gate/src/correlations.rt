@@ -6,7 +6,7 @@ ghost use Rattle.noise.specs.Lines.{Plane};
 ghost use Rattle.noise.specs.Products.{pair};
 ghost use Rattle.gate.specs.RowCorrelation.{correlationOf, rowCorrelation};
 
-// lagged / energy; 0.0 where there is nothing to divide.
+// The quotient of the two sums; 0.0 where there is nothing to divide.
 pub fn correlation_of(w: usize, h: usize, lag: usize, energy: f64, lagged: f64) -> f64
     ensures { λ r. ⌜ r ≡ correlationOf w h lag energy lagged ⌝ }
 {
