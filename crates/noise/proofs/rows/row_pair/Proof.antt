@@ -1,5 +1,5 @@
 -- `noise::rows::row_pair` meets its contract: both lines hold the noise, and `dot` sums their products. Assumes nothing.
-use mathlib.Core.Path.{_≡_, sym, _∙_, subst}
+use mathlib.Core.Path.{_≡_, refl, sym, _∙_, subst}
 use Prim.Native.Nat.{ℕ, _+_, _*_, _^_}
 use borrow.Author.Needs.{needs}
 use lib.ListN.{length}
@@ -8,7 +8,9 @@ use Rattle.laws.proofs.Is.{again, self}
 use Rattle.noise.specs.Noise.{noise}
 use Rattle.noise.specs.Lines.{Places}
 use Rattle.noise.proofs.Lines.{looser}
-use Rattle.noise.proofs.NoiseSums.{noise-lines, noise-sum}
+use Rattle.noise.proofs.LineSums.{size}
+use Rattle.noise.proofs.NoiseSums.{noise-sum}
+use Rattle.noise.proofs.NoiseLines.{lines, is-noise}
 use Rattle.noise.proofs.rows.row_pair.Statement.{statement}
 use Rattle.noise.proofs.rows.row_pair.Tie as tie
 
@@ -33,12 +35,17 @@ second c =
 dot-requires : tie.Need-dot-requires
 dot-requires c κs =
     let S = c .before .before .before .before .before .before .before .before .before .before .before in
-    noise-lines (S .pre .1) (S .pre .1) (second (c .before)) (second (c .before)) (S .pre .2)
+    let L = is-noise (S .pre .1) (second (c .before)) (S .pre .2) in
+    lines L L refl
 
 dot-requires-2 : tie.Need-dot-requires-2
 dot-requires-2 c κs =
     let S = c .before .before .before .before .before .before .before .before .before .before .before .before .before in
-    noise-lines (S .pre .0) (S .pre .1) (c .before .before .before .before .before .before .before .noise-line .ensures) (second (c .before .before .before)) (S .pre .2)
+    let A = S .args in
+    let n = length (A .p .now) in
+    let e = c .before .before .before .before .before .before .before .noise-line .ensures in
+    let d = second (c .before .before .before) in
+    lines (is-noise (S .pre .0) e (S .pre .2)) (is-noise (S .pre .1) d (S .pre .2)) (size n (λ i. noise (A .src0 .now) (A .den0 .now) (A .start0 + i * A .stride0)) e ∙ sym (size n (λ i. noise (A .src1 .now) (A .den1 .now) (A .start1 + i * A .stride1)) d))
 
 same-length : tie.Need-same-length
 same-length c = search needs

@@ -1,12 +1,12 @@
 -- `noise::sums::row_sums` meets its contract: the line holds the noise, and each sum is one over it. Assumes nothing.
-use mathlib.Core.Path.{sym, _∙_}
+use mathlib.Core.Path.{refl, sym, _∙_}
 use native.Mathlib.Nat.{le-trans, le-of-eq}
 use borrow.Author.Needs.{needs}
 use Rattle.laws.proofs.Is.{again, self}
 use Rattle.noise.proofs.Lines.{looser}
 use Rattle.noise.proofs.LineSums.{size}
-use Rattle.noise.proofs.NoiseSums.{noise-lines, noise-sum}
-use Rattle.noise.proofs.NoiseLines.{is-noise, squares-are, lagged-are}
+use Rattle.noise.proofs.NoiseSums.{noise-sum}
+use Rattle.noise.proofs.NoiseLines.{lines, is-noise, squares-are, lagged-are}
 use Rattle.noise.proofs.sums.row_sums.Statement.{statement}
 use Rattle.noise.proofs.sums.row_sums.Tie as tie
 
@@ -17,7 +17,8 @@ dot-requires : tie.Need-dot-requires
 dot-requires c κs =
     let S = c .before .before .before .before .before .before in
     let e = c .before .before .noise-line .ensures in
-    noise-lines (S .pre .0) (S .pre .0) e e (S .pre .1)
+    let L = is-noise (S .pre .0) e (S .pre .1) in
+    lines L L refl
 
 lagged-dot-requires : tie.Need-lagged-dot-requires
 lagged-dot-requires c κs =
