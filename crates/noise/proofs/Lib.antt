@@ -13,6 +13,7 @@ pub mod Shift
 pub mod BlockSums
 pub mod LineSums
 pub mod NoiseSums
+pub mod NoiseLines
 pub mod Grids
 pub mod Quarters
 pub mod Averages

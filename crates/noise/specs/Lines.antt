@@ -32,6 +32,11 @@ pub record Plane (w h : ℕ) (source denoised : List ℕ) : Type 0 where
   pub source-low : Below (2 ^ 12) source
   pub denoised-low : Below (2 ^ 12) denoised
 
+-- a line of noise of such samples: at most 4,096 numbers, each at most 4,095 in size
+pub record NoiseLine (line : List ℤ) : Type 0 where
+  pub few : length line ≤ 2 ^ 12
+  pub small : (i : ℕ) → i < length line → natAbs (at line i) ≤ 4095
+
 -- two lines of one length, whose products are so small that an i32 holds the sum of any `size` of them
 pub record Lines (size : ℕ) (p q : List ℤ) : Type 0 where
   pub same : length p ≡ length q
