@@ -1,5 +1,5 @@
 -- The answer of the call, from the number of its questions, luma's coefficients and chroma's; what a chroma component asks of an accepted frame. Assumes nothing.
-use mathlib.Core.Path.{_≡_, sym, ap, _∙_}
+use mathlib.Core.Path.{_≡_, sym, _∙_}
 use mathlib.Core.Bool.{true, false}
 use mathlib.Core.List.{List}
 use Prim.Native.Nat.{ℕ}

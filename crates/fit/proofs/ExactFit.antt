@@ -28,7 +28,7 @@ use Rattle.normal.proofs.Squares.{square-entry}
 use Rattle.normal.proofs.Callers.{rows, luma-over}
 use Rattle.normal.proofs.Bounds.{tap-bound}
 use Rattle.solve.specs.Answer.{solvedOf}
-use Rattle.fit.specs.Steps.{pair, neighbourOf, withTap, fitF, energyF, matrixOf, rightOf, solvedFit, coefficientsOf}
+use Rattle.fit.specs.Steps.{pair, neighbourOf, withTap, fitF, energyF, solvedFit, coefficientsOf}
 use Rattle.fit.specs.Sums.{four, sumAt, rightAt, exactFit, planeSums}
 use Rattle.fit.proofs.Near.{last-own}
 use Rattle.fit.proofs.FloatEntries.{noise-sum, energy-sum, square-sum, tap-sum, own-sum}

@@ -1,5 +1,5 @@
 -- "Between two accepted calls of one shape that differ only in Cr samples, every luma and Cb result is the same." Assumes nothing.
-use mathlib.Core.Path.{_≡_, refl, sym, _∙_}
+use mathlib.Core.Path.{_≡_, refl}
 use mathlib.Core.Bool.{Bool, true, false, cond}
 use mathlib.Core.List.{List}
 use Prim.Native.Nat.{ℕ}

@@ -1,6 +1,6 @@
 // The fit of a luma plane, and of both chroma planes.
 ghost use mathlib.Core.Path.{_≡_};
-ghost use Prim.Native.Nat.{_+_, _*_, _≤_, _<_};
+ghost use Prim.Native.Nat.{_*_, _≤_, _<_};
 ghost use lib.ListN.{length};
 ghost use Rattle.noise.specs.Lines.{Plane};
 ghost use Rattle.noise.specs.Quarters.{luma};
