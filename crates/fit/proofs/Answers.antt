@@ -1,5 +1,5 @@
 -- The answer of the call, from the number of its questions, luma's coefficients and chroma's; what a chroma component asks of an accepted frame. Assumes nothing.
-use mathlib.Core.Path.{_≡_, sym, ap, _∙_}
+use mathlib.Core.Path.{_≡_, sym, _∙_}
 use mathlib.Core.Bool.{true, false}
 use mathlib.Core.List.{List}
 use Prim.Native.Nat.{ℕ}
@@ -14,7 +14,8 @@ use Rattle.noise.specs.Quarters.{luma}
 use Rattle.noise.specs.AverageSums.{Component}
 use Rattle.noise.proofs.Accepted.{plane-of}
 use Rattle.normal.specs.Normal.{neighbours}
-use Rattle.fit.specs.Steps.{pair, lumaFit, chromaFit}
+use Rattle.noise.specs.Products.{pair}
+use Rattle.fit.specs.Steps.{lumaFit, chromaFit}
 use Rattle.fit.specs.Answer.{allZero, firstOf, unfit, fitOf, fitAnswer}
 use Rattle.fit.specs.declared.Fit.{Fit}
 

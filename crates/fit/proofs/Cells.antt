@@ -1,5 +1,5 @@
 -- The equations from exact sums: where each sum stands, and what each test of the code makes of the definitions. Assumes nothing.
-use mathlib.Core.Path.{_≡_, sym, _∙_}
+use mathlib.Core.Path.{_≡_, sym}
 use mathlib.Core.List.{List}
 use Prim.Native.Nat.{ℕ, _+_, _*_, _≤_, _<_}
 use native.Mathlib.Nat.{le-of-eq, lt-of-lt-of-le}

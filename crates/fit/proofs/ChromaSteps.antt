@@ -2,7 +2,7 @@
 use mathlib.Core.Path.{_≡_, refl, ap, _∙_}
 use mathlib.Core.Bool.{Bool, true, false, _||_}
 use mathlib.Core.List.{List}
-use Prim.Native.Nat.{ℕ, _*_, _^_, _≤_, _<_}
+use Prim.Native.Nat.{ℕ, _*_, _≤_, _<_}
 use native.Mathlib.Nat.{le-trans, le-of-lt, lt-of-le-of-lt, mul-pos}
 use native.Mathlib.Omega.{arith}
 use lib.Dec.{eqb, leb, lit≤, lit<}
@@ -27,7 +27,8 @@ use Rattle.normal.specs.Normal.{neighbours, factors, tapEntry, tapSquare}
 use Rattle.normal.specs.Calls.{Window, Planes, TapSums}
 use Rattle.normal.proofs.Callers.{window, rows, luma-over}
 use Rattle.normal.proofs.Bounds.{square-bound}
-use Rattle.fit.specs.Steps.{pair, zeros, chromaFit}
+use Rattle.noise.specs.Products.{pair}
+use Rattle.fit.specs.Steps.{zeros, chromaFit}
 use Rattle.fit.specs.Sums.{exactFit, planeSums}
 use Rattle.fit.proofs.ExactFit.{divided, chroma-exact}
 

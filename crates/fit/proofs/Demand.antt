@@ -8,7 +8,7 @@ use Rattle.frame.specs.Calls.{fitRefusal}
 use Rattle.frame.specs.declared.Shape.{Shape}
 use Rattle.frame.proofs.Accepted.{FitCall, fit-call}
 use Rattle.frame.proofs.Facts.{Small}
-use Rattle.noise.specs.Products.{Pair, Factor, average, own, productF}
+use Rattle.noise.specs.Products.{Pair, Factor, average, own, productF, pair}
 use Rattle.noise.specs.Claim.{Limited, frameSamples, frameTop, PositionsOf, Exact}
 use Rattle.noise.specs.Steps.{InFit, tap}
 use Rattle.noise.proofs.Accepted.{accepted-samples, chroma-small}
@@ -16,7 +16,7 @@ use Rattle.noise.proofs.Products.{frame-products-exact}
 use Rattle.noise.proofs.Steps.{window-case}
 use Rattle.noise.proofs.FitWindow.{fit-positions, own-near}
 use Rattle.normal.specs.Normal.{factors}
-use Rattle.fit.specs.Steps.{pair, neighbourOf, fitF}
+use Rattle.fit.specs.Steps.{neighbourOf, fitF}
 use Rattle.fit.proofs.Near.{neighbour-near}
 use Rattle.fit.proofs.EachFit.{lumaOf, planeOf}
 

@@ -12,10 +12,10 @@ use Rattle.frame.specs.Questions.{accepted}
 use Rattle.frame.specs.Calls.{fitRefusal}
 use Rattle.frame.specs.declared.Shape.{Shape}
 use Rattle.noise.specs.Average.{Luma}
-use Rattle.noise.specs.Products.{Pair}
+use Rattle.noise.specs.Products.{Pair, pair}
 use Rattle.noise.specs.Quarters.{luma}
 use Rattle.normal.specs.Normal.{neighbours}
-use Rattle.fit.specs.Steps.{pair, zeros, coefficientsOf, tooSmall, energyF, lumaFit, chromaFit}
+use Rattle.fit.specs.Steps.{zeros, coefficientsOf, tooSmall, energyF, lumaFit, chromaFit}
 use Rattle.fit.specs.Answer.{allZero, firstOf, unfit, fitOf, fitAnswer}
 use Rattle.fit.specs.declared.Fit.{Fit}
 use Rattle.fit.specs.Words.{lumaSolved, chromaSolved}

@@ -24,7 +24,8 @@ use Rattle.normal.specs.Normal.{neighbours, neighbour, windowSum, entry}
 use Rattle.normal.specs.Calls.{Window}
 use Rattle.normal.proofs.Callers.{rows, picture}
 use Rattle.normal.proofs.Bounds.{window-ext, sample-last, entry-bound}
-use Rattle.fit.specs.Steps.{pair, energyF}
+use Rattle.noise.specs.Products.{pair}
+use Rattle.fit.specs.Steps.{energyF}
 use Rattle.fit.specs.Words.{energy}
 use Rattle.fit.proofs.FloatEntries.{energy-sum}
 

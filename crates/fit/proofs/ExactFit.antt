@@ -16,7 +16,7 @@ use Rattle.laws.proofs.Scaled.{scaled-int, div-scaled}
 use Rattle.noise.specs.Average.{Luma, quarters}
 use Rattle.noise.specs.Lines.{at, Plane}
 use Rattle.noise.specs.Grids.{noiseAt}
-use Rattle.noise.specs.Products.{own, average}
+use Rattle.noise.specs.Products.{own, average, pair}
 use Rattle.noise.specs.Claim.{Limited, frameSamples, frameTop}
 use Rattle.noise.specs.AverageSums.{Component}
 use Rattle.noise.proofs.Grids.{columnsFrom}
@@ -28,7 +28,7 @@ use Rattle.normal.proofs.Squares.{square-entry}
 use Rattle.normal.proofs.Callers.{rows, luma-over}
 use Rattle.normal.proofs.Bounds.{tap-bound}
 use Rattle.solve.specs.Answer.{solvedOf}
-use Rattle.fit.specs.Steps.{pair, neighbourOf, withTap, fitF, energyF, matrixOf, rightOf, solvedFit, coefficientsOf}
+use Rattle.fit.specs.Steps.{neighbourOf, withTap, fitF, energyF, solvedFit, coefficientsOf}
 use Rattle.fit.specs.Sums.{four, sumAt, rightAt, exactFit, planeSums}
 use Rattle.fit.proofs.Near.{last-own}
 use Rattle.fit.proofs.FloatEntries.{noise-sum, energy-sum, square-sum, tap-sum, own-sum}

@@ -2,26 +2,25 @@
 use mathlib.Core.Path.{_≡_, refl, sym, ap, _∙_}
 use mathlib.Core.List.{List}
 use Prim.Native.Nat.{ℕ, _+_, _-_, _*_, _/_, _%_, _≤_, _<_}
-use native.Mathlib.Nat.{le-refl}
 use native.Mathlib.Omega.{arith}
 use lib.IntN.{ℤ, pos, _-ℤ_, _*ℤ_}
-use lib.Ieee.{Float, binary64, ofInt}
+use lib.Ieee.{binary64, ofInt}
 use Rattle.laws.specs.Scaled.{ofScaled}
 use Rattle.laws.proofs.Scaled.{scaled-int}
 use Rattle.frame.specs.Size.{chromaWidth, chromaHeight}
 use Rattle.noise.specs.Average.{Luma, quarters}
 use Rattle.noise.specs.Lines.{Plane}
 use Rattle.noise.specs.Grids.{noiseAt}
-use Rattle.noise.specs.Products.{Pair, Factor, average, own, whole}
+use Rattle.noise.specs.Products.{Pair, average, own, whole, pair}
 use Rattle.noise.specs.Claim.{Limited, frameSamples, frameTop}
 use Rattle.noise.specs.Steps.{InFit, tap}
 use Rattle.noise.proofs.Grids.{columnsFrom}
 use Rattle.noise.proofs.Accepted.{plane-samples}
 use Rattle.noise.proofs.Products.{frame-held}
 use Rattle.noise.proofs.FitWindow.{fit-sum, in-quarters}
-use Rattle.normal.specs.Normal.{Picture, side, neighbours, factors, neighbour, windowSum, entry, tapEntry, tapSquare}
+use Rattle.normal.specs.Normal.{Picture, side, neighbours, factors, neighbour, entry, tapEntry, tapSquare}
 use Rattle.normal.proofs.Bounds.{window-rows, window-ext, window-swap}
-use Rattle.fit.specs.Steps.{pair, neighbourOf, fitF, energyF}
+use Rattle.fit.specs.Steps.{neighbourOf, fitF, energyF}
 use Rattle.fit.proofs.Near.{counted, is-counted, counted-near, last-own, counted-noise}
 
 module _ (source denoised : List ℕ) (w h lag : ℕ) where

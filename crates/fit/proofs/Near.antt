@@ -13,7 +13,7 @@ use lib.ListN.{getD, List·getD-eq-default}
 use lib.Signed.{_≤ℤ_, leZ-yes}
 use Rattle.noise.specs.Noise.{noise, place}
 use Rattle.noise.specs.Grids.{noiseAt}
-use Rattle.noise.specs.Products.{Pair, Factor, noiseFrom, own, whole}
+use Rattle.noise.specs.Products.{Pair, Factor, noiseFrom, own, whole, pair}
 use Rattle.noise.specs.Steps.{InFit, near}
 use Rattle.noise.proofs.Grids.{columnsFrom}
 use Rattle.normal.specs.Normal.{side, neighbours, factors, neighbour}
@@ -23,7 +23,7 @@ use Rattle.positions.specs.Positions.{positions}
 use Rattle.positions.specs.Neighbours.{sample}
 use Rattle.positions.proofs.Neighbours.{positions-neighbours}
 use Rattle.positions.proofs.Filter.{position-at}
-use Rattle.fit.specs.Steps.{pair, neighbourOf}
+use Rattle.fit.specs.Steps.{neighbourOf}
 
 -- ---- a - lag, for a from 0 to lag + m
 low-cut : (b : Bool) (a l : ℕ) → negsuc l ≤ℤ cond b (negsuc (suc l - suc a)) (pos (a - suc l))

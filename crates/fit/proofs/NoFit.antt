@@ -1,6 +1,6 @@
 -- "No fit" is the answer of an accepted call exactly in the scope's cases. Assumes nothing.
 use mathlib.Core.Path.{_≡_, refl, sym, ap, _∙_}
-use mathlib.Core.Bool.{Bool, true, false, cond, _&&_, _||_, true≢false, and-eq-true-iff}
+use mathlib.Core.Bool.{Bool, true, false, cond, _||_, true≢false, and-eq-true-iff}
 use mathlib.Core.List.{List}
 use mathlib.Core.Logic.{⊎-elim}
 use Prim.Native.Nat.{ℕ, zero, suc, _*_, _≤_, _<_}
@@ -24,7 +24,8 @@ use Rattle.normal.proofs.Callers.{window}
 use Rattle.normal.proofs.Sizes.{neighbours-le}
 use Rattle.solve.specs.Elimination.{value}
 use Rattle.solve.specs.declared.Solved.{Solved}
-use Rattle.fit.specs.Steps.{pair, zeros, quantised, coefficientsOf, energyF, lumaFit}
+use Rattle.noise.specs.Products.{pair}
+use Rattle.fit.specs.Steps.{zeros, quantised, coefficientsOf, energyF, lumaFit}
 use Rattle.fit.specs.Answer.{allZero, firstOf, unfit, fitOf, fitAnswer}
 use Rattle.fit.specs.declared.Fit.{Fit}
 use Rattle.fit.specs.Words.{lumaSolved, NoFit, lagZero, narrow, short, still, unsolved, white}

@@ -1,5 +1,5 @@
 -- 5.9.30: each coefficient of every answer, plus 128, is a field of 8 bits. Assumes nothing.
-use mathlib.Core.Path.{_≡_, refl, sym, subst}
+use mathlib.Core.Path.{refl, sym, subst}
 use mathlib.Core.Bool.{Bool, true, false, cond}
 use mathlib.Core.List.{List}
 use Prim.Native.Nat.{ℕ, zero, suc}
@@ -15,7 +15,8 @@ use Rattle.float.specs.Coefficient.{Written}
 use Rattle.float.proofs.Coefficient.{quant-written}
 use Rattle.solve.specs.Elimination.{value}
 use Rattle.solve.specs.declared.Solved.{Solved}
-use Rattle.fit.specs.Steps.{pair, zeros, quantised, coefficientsOf, chromaFit}
+use Rattle.noise.specs.Products.{pair}
+use Rattle.fit.specs.Steps.{zeros, quantised, coefficientsOf, chromaFit}
 use Rattle.fit.specs.Answer.{firstOf, fitAnswer}
 use Rattle.fit.specs.declared.Fit.{Fit}
 use Rattle.fit.specs.Words.{lumaSolved, chromaSolved}

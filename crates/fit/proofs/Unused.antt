@@ -13,13 +13,13 @@ use Rattle.laws.specs.Scaled.{plusZero}
 use Rattle.laws.proofs.Table.{getD-tabulate}
 use Rattle.frame.specs.declared.Shape.{Shape}
 use Rattle.float.specs.Steps.{quantAr}
-use Rattle.noise.specs.Products.{Pair, Factor}
+use Rattle.noise.specs.Products.{Pair, Factor, pair}
 use Rattle.normal.specs.Normal.{neighbours, factors}
 use Rattle.solve.specs.Elimination.{value}
 use Rattle.solve.specs.Answer.{refusalOf}
 use Rattle.solve.specs.declared.Solved.{Solved}
 use Rattle.solve.proofs.Values.{Whole, solved-whole}
-use Rattle.fit.specs.Steps.{pair, neighbourOf, withTap, zeros, quantised, solvedFit, coefficientsOf, lumaFit, chromaFit}
+use Rattle.fit.specs.Steps.{neighbourOf, withTap, zeros, quantised, solvedFit, coefficientsOf, lumaFit, chromaFit}
 use Rattle.fit.specs.Answer.{firstOf, fitAnswer}
 use Rattle.fit.proofs.EachFit.{luma-case, chroma-case, lumaOf, planeOf, answer-case}
 

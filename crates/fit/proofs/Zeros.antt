@@ -12,7 +12,7 @@ use lib.ListN.{getD}
 use mir.Syntax.{w32}
 use mir.Val.{SFits, ofZ, toZ}
 use mir.ValLaws.{toZ-ofZ}
-use borrow.Author.Tests.{eq-eqb, ne-eqb}
+use borrow.Author.Tests.{ne-eqb}
 use Rattle.fit.specs.Answer.{allZero}
 
 one-more : (x : List ℤ) (i : ℕ) → allZero x (i + 1) ≡ (allZero x i && eqb (natAbs (getD x i (pos 0))) 0)

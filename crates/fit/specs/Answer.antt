@@ -12,7 +12,8 @@ use Rattle.frame.specs.Calls.{fitRefusal}
 use Rattle.frame.specs.declared.Shape.{Shape}
 use Rattle.noise.specs.Quarters.{luma}
 use Rattle.normal.specs.Normal.{neighbours}
-use Rattle.fit.specs.Steps.{pair, lumaFit, chromaFit}
+use Rattle.noise.specs.Products.{pair}
+use Rattle.fit.specs.Steps.{lumaFit, chromaFit}
 use Rattle.fit.specs.declared.Fit.{Fit}
 
 -- `y.iter().all(|&c| c == 0)`, of the first n

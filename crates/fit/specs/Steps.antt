@@ -20,10 +20,6 @@ use Rattle.solve.specs.Elimination.{Row, Matrix, value}
 use Rattle.solve.specs.Answer.{solvedOf}
 use Rattle.solve.specs.declared.Solved.{Solved}
 
--- a plane w wide and h high, and its denoised copy
-abbrev pub pair : List ℕ → List ℕ → ℕ → ℕ → Pair
-pair source denoised w h = record { source = source; denoised = denoised; width = w; height = h }
-
 -- `pos[i]`: the noise of neighbour i, by its row and column from the sample; past the last neighbour the sample's own
 abbrev pub neighbourOf : Pair → ℕ → ℕ → Factor
 neighbourOf plane lag i = let p = getD (positions lag) i sample in noiseFrom plane (p .0) (p .1)

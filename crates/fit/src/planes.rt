@@ -1,13 +1,14 @@
 // The fit of a luma plane, and of both chroma planes.
 ghost use mathlib.Core.Path.{_≡_};
-ghost use Prim.Native.Nat.{_+_, _*_, _≤_, _<_};
+ghost use Prim.Native.Nat.{_*_, _≤_, _<_};
 ghost use lib.ListN.{length};
 ghost use Rattle.noise.specs.Lines.{Plane};
 ghost use Rattle.noise.specs.Quarters.{luma};
 ghost use Rattle.noise.specs.AverageSums.{Component};
 ghost use Rattle.normal.specs.Normal.{neighbours, factors};
 ghost use Rattle.normal.specs.Calls.{Window};
-ghost use Rattle.fit.specs.Steps.{pair, lumaFit, chromaFit};
+ghost use Rattle.noise.specs.Products.{pair};
+ghost use Rattle.fit.specs.Steps.{lumaFit, chromaFit};
 ghost use Rattle.fit.specs.Sums.{exactFit, planeSums};
 use crate::coefficients::coefficients;
 use noise::Grid;

@@ -10,3 +10,4 @@ pub mod Random
 pub mod Reader
 pub mod Questions
 pub mod Positions
+pub mod Fit

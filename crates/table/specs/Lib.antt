@@ -11,3 +11,4 @@ pub mod Random
 pub mod Reader
 pub mod Questions
 pub mod Positions
+pub mod Fit
