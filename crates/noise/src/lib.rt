@@ -6,7 +6,6 @@ mod line;
 mod rows;
 
 pub use average::average_line;
-pub use average::quarters_line;
 pub use average::sub_x;
 pub use average::sub_y;
 pub use blocks::dot;
