@@ -9,9 +9,9 @@ use mathlib.Core.Bool.{false}
 use Rattle.laws.specs.Cases.{Case}
 use Rattle.frame.specs.Calls.{lumaGateRefusal, chromaGateRefusal}
 use Rattle.frame.specs.declared.Shape.{Shape}
-use Rattle.noise.specs.Products.{Pair}
+use Rattle.noise.specs.Products.{Pair, pair}
 use Rattle.profile.specs.Steps.{planeSigma16}
-use Rattle.gate.specs.RowCorrelation.{pair, rowCorrelation}
+use Rattle.gate.specs.RowCorrelation.{rowCorrelation}
 use Rattle.gate.specs.Tests.{lumaFinding, chromaFinding}
 use Rattle.gate.specs.declared.tests.Finding.{Finding}
 use Rattle.gate.specs.declared.tests.Finding.the-variants.{RowCorrelated, TimeCorrelated, Passed}
