@@ -18,14 +18,14 @@ use Rattle.laws.proofs.Is.{sfits}
 use Rattle.laws.proofs.Scaled.{scaled-int, div-scaled}
 use Rattle.laws.proofs.Sums.{sum-bound}
 use Rattle.noise.specs.Average.{Luma}
-use Rattle.noise.specs.Products.{own, average}
+use Rattle.noise.specs.Products.{pair, own, average}
 use Rattle.noise.specs.Claim.{Limited, frameSamples, frameTop}
 use Rattle.noise.specs.AverageSums.{squaresAlong, productsAlong, averageSquares, averageProducts, Component}
 use Rattle.noise.proofs.Accepted.{plane-samples}
 use Rattle.noise.proofs.Products.{frame-held}
 use Rattle.noise.proofs.ChromaSums.{narrow, low, squares-le, products-le}
 use Rattle.noise.proofs.FitWindow.{squares-sum, products-sum}
-use Rattle.correlation.specs.Steps.{pair, squaresF, productsF, corr}
+use Rattle.correlation.specs.Steps.{squaresF, productsF, corr}
 use Rattle.correlation.specs.Exact.{tapOf}
 
 -- 16.0 and 4.0

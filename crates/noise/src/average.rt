@@ -110,7 +110,7 @@ fn noise_at(src: &[u16], den: &[u16], w: usize, h: usize, y: usize, x: usize) ->
 }
 
 // The noise of two rows, added column by column.
-fn row_sums(
+fn added_rows(
     src: &[u16],
     den: &[u16],
     w: usize,
@@ -147,6 +147,6 @@ pub fn average_line(
 {
     let upper = luma_row(format, h, r, 0usize);
     let lower = luma_row(format, h, r, sub_y(format));
-    row_sums(src, den, w, h, upper, lower, sums);
+    added_rows(src, den, w, h, upper, lower, sums);
     quarters_line(sums, sub_x(format), line);
 }

@@ -19,15 +19,15 @@ sub-y-requires c κs = search needs
 luma-row-requires-2 : tie.Need-luma-row-requires-2
 luma-row-requires-2 c κs = (c .before .before .before .before .pre .1, le-trans (le-of-eq (c .sub-y .ensures)) (bit-le (leb (c .before .before .before .before .args .format) 1)))
 
-row-sums-requires : tie.Need-row-sums-requires
-row-sums-requires c κs =
+added-rows-requires : tie.Need-added-rows-requires
+added-rows-requires c κs =
     let S = c .before .before .before .before .before .before in
     let inside = in-height (luma (S .args .src .now) (S .args .den .now) (S .args .w) (S .args .h) (S .args .format)) (S .pre .0) (S .args .r) (S .pre .1) in
     (S .pre .0, lt-of-le-of-lt (le-of-eq (c .before .before .before .luma-row .ensures)) (inside _), lt-of-le-of-lt (le-of-eq (c .before .luma-row2 .ensures)) (inside _), S .pre .2)
 
 -- the sums, as filled
-rows : (c : tie.After-row-sums) → let A = c .before .before .before .before .before .before .before .args in
-    RowsOf (luma (A .src .now) (A .den .now) (A .w) (A .h) (A .format)) (A .r) (c .row-sums .last .1 .1 .1 .1 .1 .1 .0)
+rows : (c : tie.After-added-rows) → let A = c .before .before .before .before .before .before .before .args in
+    RowsOf (luma (A .src .now) (A .den .now) (A .w) (A .h) (A .format)) (A .r) (c .added-rows .last .1 .1 .1 .1 .1 .1 .0)
 rows c =
     let A = c .before .before .before .before .before .before .before .args in
     record {
@@ -35,7 +35,7 @@ rows c =
       lower = c .before .before .luma-row2 .result;
       upper-is = c .before .before .before .before .luma-row .ensures;
       lower-is = c .before .before .luma-row2 .ensures ∙ ap (λ (n : ℕ). min (A .r * 2 ^ subY (A .format) + n) (A .h - 1)) (c .before .before .before .sub-y .ensures);
-      sums-are = c .row-sums .ensures;
+      sums-are = c .added-rows .ensures;
     }
 
 sub-x-requires : tie.Need-sub-x-requires
@@ -68,7 +68,7 @@ average-line-spec =
     luma-row-requires
     sub-y-requires
     luma-row-requires-2
-    row-sums-requires
+    added-rows-requires
     sub-x-requires
     quarters-line-requires
     same-length

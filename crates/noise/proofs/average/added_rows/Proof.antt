@@ -1,4 +1,4 @@
--- `noise::average::row_sums` meets its contract: the columns passed are filled with the sum of their two noises. Assumes nothing.
+-- `noise::average::added_rows` meets its contract: the columns passed are filled with the sum of their two noises. Assumes nothing.
 use mathlib.Core.Path.{_≡_, ap, _∙_, subst}
 use Prim.Native.Nat.{ℕ, _-_, _≤_}
 use native.Mathlib.Nat.{le-trans, le-of-eq}
@@ -15,8 +15,8 @@ use Rattle.noise.specs.Noise.{noise, place}
 use Rattle.noise.proofs.Fill.{Filled, fill-starts, fill-turn, fill-ends}
 use Rattle.noise.proofs.Grids.{plane-noise-le}
 use Rattle.noise.proofs.Quarters.{two-is}
-use Rattle.noise.proofs.average.row_sums.Statement.{statement}
-use Rattle.noise.proofs.average.row_sums.Tie as tie
+use Rattle.noise.proofs.average.added_rows.Statement.{statement}
+use Rattle.noise.proofs.average.added_rows.Tie as tie
 
 abbrev Inv-loop : tie.InvT-loop
 Inv-loop src den w h upper lower sums₀ x₀ sums x = Filled (λ k. noise src den (place w upper k) +ℤ noise src den (place w lower k)) sums₀ sums x
@@ -75,8 +75,8 @@ returns c =
     let A = S .args in
     fill-ends _ _ (c .before .loop .inv) (search needs) ∙ ap (λ (n : ℕ). tabulate n (λ x. noise (A .src .now) (A .den .now) (place (A .w) (A .upper) x) +ℤ noise (A .src .now) (A .den .now) (place (A .w) (A .lower) x))) (S .pre .3)
 
-pub row-sums-spec : {M : Type 1} → statement M
-row-sums-spec =
+pub added-rows-spec : {M : Type 1} → statement M
+added-rows-spec =
     tie.close
     (tie.spec
     Inv-loop
