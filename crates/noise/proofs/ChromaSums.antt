@@ -1,5 +1,5 @@
 -- A chroma row's averages and its noise, as lines: both are lines for their blocks, with the sums of their products and how large these are. Assumes nothing.
-use mathlib.Core.Path.{_≡_, refl, sym, ap, _∙_}
+use mathlib.Core.Path.{_≡_, sym, ap, _∙_}
 use mathlib.Core.List.{List}
 use Prim.Native.Nat.{ℕ, _*_, _^_, _≤_, _<_}
 use native.Mathlib.Nat.{le-trans, le-of-eq, lt-of-le-of-lt, lt-of-lt-of-le, mul-le-mul}
@@ -11,11 +11,11 @@ use Rattle.laws.specs.Sums.{sumTo}
 use Rattle.laws.proofs.Sums.{sum-ext}
 use Rattle.noise.specs.Noise.{noise, place}
 use Rattle.noise.specs.Average.{Luma, subX, subY, quarters}
-use Rattle.noise.specs.Lines.{at, product, Within, Lines}
+use Rattle.noise.specs.Lines.{product, Within, Lines}
 use Rattle.noise.specs.Quarters.{columns}
-use Rattle.noise.specs.AverageSums.{squaresAlong, productsAlong, Component}
+use Rattle.noise.specs.AverageSums.{squaresAlong, productsAlong, Component, Along, along}
 use Rattle.noise.proofs.Grids.{plane-noise-le}
-use Rattle.noise.proofs.LineSums.{entry, size, table-is, sum-le, sum-is, are-lines}
+use Rattle.noise.proofs.LineSums.{entry, size, sum-le, sum-is, are-lines}
 use Rattle.noise.proofs.Averages.{quarters-le}
 use Rattle.noise.proofs.ChromaSize.{Over, over, columns-le, rows-le}
 
@@ -57,13 +57,16 @@ module _ (l : Luma) {source denoised : List ℕ} {cw ch : ℕ} (K : Component l 
       filled : averages ≡ tabulate cw (quarters l r)
       filled = e ∙ ap (λ (n : ℕ). tabulate n (quarters l r)) (sym columns-are)
 
-      pub averages-count : length averages ≡ cw
+      averages-count : length averages ≡ cw
       averages-count = size cw (quarters l r) filled
 
-      pub averages-small : Within 16380 averages
+      averages-small : Within 16380 averages
       averages-small c k =
           let o : c < cw = lt-of-lt-of-le k (le-of-eq averages-count) in
           le-trans (le-of-eq (ap natAbs (entry cw (quarters l r) filled c o))) (average-le c o)
+
+      pub averages-along : Along averages source denoised cw ch r
+      averages-along = record { plane = K .of-chroma; row = in-rows; narrow = narrow; count = averages-count; within = averages-small }
 
       pub squares-lines : Lines 8 averages averages
       squares-lines = are-lines cw (quarters l r) (quarters l r) 16380 16380 average-le average-le filled filled 8 (lit< tt) (le-trans narrow (lit≤ tt))
@@ -71,19 +74,5 @@ module _ (l : Luma) {source denoised : List ℕ} {cw ch : ℕ} (K : Component l 
       pub squares-sum : sumTo (product averages averages) (length averages) ≡ squaresAlong l cw r
       squares-sum = sum-is cw (quarters l r) (quarters l r) 16380 16380 average-le average-le filled filled
 
-      pub products-sum : sumTo (λ c. at averages c *ℤ noise source denoised (place cw r c)) cw ≡ productsAlong l source denoised cw r
+      pub products-sum : sumTo (along averages source denoised cw r) cw ≡ productsAlong l source denoised cw r
       products-sum = sum-ext _ _ cw (λ c k j. entry cw (quarters l r) filled c k j *ℤ noise source denoised (place cw r c))
-
--- a line of averages and a line of chroma noise
-module _ (w : ℕ) (g : ℕ → ℤ) (small : (c : ℕ) → c < w → natAbs (g c) ≤ 4095) (averages : List ℤ) (count : length averages ≡ w) (within : Within 16380 averages) {line : List ℤ} (e : line ≡ tabulate w g) where
-  own-entries : averages ≡ tabulate w (at averages)
-  own-entries = table-is averages w (at averages) count (λ c k. refl)
-
-  within-w : (c : ℕ) → c < w → natAbs (at averages c) ≤ 16380
-  within-w c k = within c (lt-of-lt-of-le k (le-of-eq (sym count)))
-
-  pub noise-lines : w ≤ 4096 → Lines 32 averages line
-  noise-lines few = are-lines w (at averages) g 16380 4095 within-w small own-entries e 32 (lit< tt) (le-trans few (lit≤ tt))
-
-  pub noise-sum : sumTo (product averages line) (length averages) ≡ sumTo (λ c. at averages c *ℤ g c) w
-  noise-sum = sum-is w (at averages) g 16380 4095 within-w small own-entries e

@@ -18,3 +18,4 @@ pub mod Quarters
 pub mod Averages
 pub mod ChromaSize
 pub mod ChromaSums
+pub mod AlongRows

@@ -6,7 +6,6 @@ use native.Mathlib.Nat.{le-trans, le-of-eq, lt-of-le-of-lt, lt-of-lt-of-le, one-
 use native.Mathlib.Numerals.{add-one-le}
 use lib.IntN.{ℤ, pos, natAbs, _+ℤ_, _*ℤ_}
 use lib.ListN.{length}
-use lib.Seq.{ext-getD}
 use mir.Syntax.{w64}
 use mir.Val.{ofZ, toZ}
 use Rattle.laws.specs.Table.{tabulate}
@@ -23,11 +22,6 @@ entry n f e i l = ap (λ (p : List ℤ). at p i) e ∙ getD-tabulate n f i (pos 
 
 pub size : {p : List ℤ} (n : ℕ) (f : ℕ → ℤ) → p ≡ tabulate n f → length p ≡ n
 size n f e = ap length e ∙ length-tabulate n f
-
--- a list is the table of its entries
-pub table-is : (l : List ℤ) (n : ℕ) (f : ℕ → ℤ) → length l ≡ n → ((i : ℕ) → i < n → at l i ≡ f i) → l ≡ tabulate n f
-table-is l n f e h =
-    ext-getD (pos 0) l (tabulate n f) (e ∙ sym (length-tabulate n f)) (λ i k. let m : i < n = rw e at k in h i m ∙ sym (getD-tabulate n f i (pos 0) m))
 
 module _ (n : ℕ) (f g : ℕ → ℤ) (a b : ℕ) (hf : (i : ℕ) → i < n → natAbs (f i) ≤ a) (hg : (i : ℕ) → i < n → natAbs (g i) ≤ b) where
   products-le : (i : ℕ) → i < n → natAbs (f i *ℤ g i) ≤ a * b

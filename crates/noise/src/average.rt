@@ -99,7 +99,7 @@ fn luma_row(format: u8, h: usize, r: usize, i: usize) -> usize
 }
 
 // The noise at row y and column x of two planes, w wide.
-fn noise_at(src: &[u16], den: &[u16], w: usize, h: usize, y: usize, x: usize) -> i16
+pub fn noise_at(src: &[u16], den: &[u16], w: usize, h: usize, y: usize, x: usize) -> i16
     requires { ⌜ Plane w h (now src) (now den) × (y < h) × (x < w) ⌝ }
     ensures { λ r. ⌜ r ≡ noise (now (src .entry)) (now (den .entry)) (place w y x) ⌝ }
 {

@@ -1,18 +1,14 @@
 // Sums of luma averages and chroma noise over the chroma planes of a frame.
 ghost use mathlib.Core.Path.{_≡_};
-ghost use Prim.Native.Nat.{_≤_, _<_};
-ghost use lib.IntN.{_*ℤ_};
+ghost use Prim.Native.Nat.{_+_, _≤_, _<_};
 ghost use lib.ListN.{length};
-ghost use Rattle.laws.specs.Sums.{sumTo};
-ghost use Rattle.noise.specs.Noise.{noise, place};
-ghost use Rattle.noise.specs.Lines.{at, Within, Plane};
+ghost use Rattle.laws.specs.Sums.{sumTo, span};
 ghost use Rattle.noise.specs.Quarters.{luma};
-ghost use Rattle.noise.specs.AverageSums.{squaresAlong, averageSquares, productsAlong, averageProducts, Component};
+ghost use Rattle.noise.specs.AverageSums.{squaresAlong, averageSquares, productsAlong, averageProducts, Component, Along, along};
 use crate::average::average_line;
-use crate::blocks::dot;
+use crate::average::noise_at;
 use crate::blocks::dot_wide;
 use crate::line::blank_line;
-use crate::line::noise_row;
 
 // The squared averages in sixteenths, and average × noise of Cb and of Cr in quarters.
 pub struct AverageSums {
@@ -21,21 +17,46 @@ pub struct AverageSums {
     pub cr: i64,
 }
 
-// average × noise along row y of a chroma plane, w wide, whose noise goes into `line`.
-fn average_noise(
+// average × noise at n columns from `from` on of row y, in an i32.
+fn noise_block(
     averages: &[i16],
     src: &[u16],
     den: &[u16],
     w: usize,
     h: usize,
     y: usize,
-    line: &mut [i16],
-) -> i64
-    requires { ⌜ Plane w h (now src) (now den) × (y < h) × (w ≤ 4096) × Within 16380 (now averages) × (length (now averages) ≡ w) × (length (now line) ≡ w) ⌝ }
-    ensures { λ s. ⌜ s ≡ sumTo (λ c. at (now (averages .entry)) c *ℤ noise (now (src .entry)) (now (den .entry)) (place w y c)) w ⌝ }
+    from: usize,
+    n: usize,
+) -> i32
+    requires { ⌜ Along (now averages) (now src) (now den) w h y × (n ≤ 32) × (from + n ≤ w) ⌝ }
+    ensures { λ r. ⌜ r ≡ span (along (now (averages .entry)) (now (src .entry)) (now (den .entry)) w y) from n ⌝ }
 {
-    noise_row(src, den, w, h, y, line);
-    dot(averages, line)
+    let mut sum = 0i32;
+    let mut i = 0usize;
+    while i < n {
+        let k = from + i;
+        let a = averages[k] as i32;
+        let d = noise_at(src, den, w, h, y, k) as i32;
+        sum = sum + a * d;
+        i += 1usize;
+    }
+    sum
+}
+
+// average × noise along row y of a chroma plane, w wide, in blocks of 32.
+fn average_noise(averages: &[i16], src: &[u16], den: &[u16], w: usize, h: usize, y: usize) -> i64
+    requires { ⌜ Along (now averages) (now src) (now den) w h y ⌝ }
+    ensures { λ s. ⌜ s ≡ sumTo (along (now (averages .entry)) (now (src .entry)) (now (den .entry)) w y) w ⌝ }
+{
+    let mut sum = 0i64;
+    let mut from = 0usize;
+    while 32usize <= w - from {
+        let part = noise_block(averages, src, den, w, h, y, from, 32usize) as i64;
+        sum = sum + part;
+        from += 32usize;
+    }
+    let rest = noise_block(averages, src, den, w, h, y, from, w - from) as i64;
+    sum + rest
 }
 
 // All three along chroma row r. Planes src and den are luma's; Cb and Cr are cw wide and ch high.
@@ -54,16 +75,15 @@ fn average_row(
     r: usize,
     sums: &mut [i16],
     averages: &mut [i16],
-    line: &mut [i16],
 ) -> AverageSums
-    requires { ⌜ Component (luma (now src) (now den) w h format) (now cb) (now dcb) cw ch × Component (luma (now src) (now den) w h format) (now cr) (now dcr) cw ch × (r < ch) × (length (now sums) ≡ w) × (length (now averages) ≡ cw) × (length (now line) ≡ cw) ⌝ }
+    requires { ⌜ Component (luma (now src) (now den) w h format) (now cb) (now dcb) cw ch × Component (luma (now src) (now den) w h format) (now cr) (now dcr) cw ch × (r < ch) × (length (now sums) ≡ w) × (length (now averages) ≡ cw) ⌝ }
     ensures { λ s. ⌜ (s .squares ≡ squaresAlong (luma (now (src .entry)) (now (den .entry)) w h format) cw r) × (s .cb ≡ productsAlong (luma (now (src .entry)) (now (den .entry)) w h format) (now (cb .entry)) (now (dcb .entry)) cw r) × (s .cr ≡ productsAlong (luma (now (src .entry)) (now (den .entry)) w h format) (now (cr .entry)) (now (dcr .entry)) cw r) ⌝ }
 {
     average_line(src, den, w, h, format, r, sums, averages);
     let filled = &averages[..];
     let squares = dot_wide(filled, filled);
-    let blue = average_noise(filled, cb, dcb, cw, ch, r, line);
-    let red = average_noise(filled, cr, dcr, cw, ch, r, line);
+    let blue = average_noise(filled, cb, dcb, cw, ch, r);
+    let red = average_noise(filled, cr, dcr, cw, ch, r);
     AverageSums {
         squares,
         cb: blue,
@@ -86,9 +106,8 @@ fn average_rows(
     ch: usize,
     sums: &mut [i16],
     averages: &mut [i16],
-    line: &mut [i16],
 ) -> AverageSums
-    requires { ⌜ Component (luma (now src) (now den) w h format) (now cb) (now dcb) cw ch × Component (luma (now src) (now den) w h format) (now cr) (now dcr) cw ch × (length (now sums) ≡ w) × (length (now averages) ≡ cw) × (length (now line) ≡ cw) ⌝ }
+    requires { ⌜ Component (luma (now src) (now den) w h format) (now cb) (now dcb) cw ch × Component (luma (now src) (now den) w h format) (now cr) (now dcr) cw ch × (length (now sums) ≡ w) × (length (now averages) ≡ cw) ⌝ }
     ensures { λ s. ⌜ (s .squares ≡ averageSquares (luma (now (src .entry)) (now (den .entry)) w h format) cw ch) × (s .cb ≡ averageProducts (luma (now (src .entry)) (now (den .entry)) w h format) (now (cb .entry)) (now (dcb .entry)) cw ch) × (s .cr ≡ averageProducts (luma (now (src .entry)) (now (den .entry)) w h format) (now (cr .entry)) (now (dcr .entry)) cw ch) ⌝ }
 {
     let mut squares = 0i64;
@@ -111,7 +130,6 @@ fn average_rows(
             r,
             sums,
             averages,
-            line,
         );
         squares = squares + row.squares;
         blue = blue + row.cb;
@@ -144,7 +162,6 @@ pub fn average_products(
 {
     let mut sums = blank_line();
     let mut averages = blank_line();
-    let mut line = blank_line();
     average_rows(
         src,
         den,
@@ -159,6 +176,5 @@ pub fn average_products(
         ch,
         &mut sums[..w],
         &mut averages[..cw],
-        &mut line[..cw],
     )
 }

@@ -7,16 +7,22 @@ use native.Mathlib.Nat.{not-suc-le-zero, le-trans, le-of-eq, lt-of-lt-of-le}
 use native.Mathlib.Omega.{arith}
 use lib.IntN.{ℤ, pos, natAbs, _+ℤ_, +ℤ-idr}
 use lib.ListN.{length, take, drop, set, length-set}
-use lib.Seq.{getD-set-same, getD-set-other}
+use lib.Seq.{ext-getD, getD-set-same, getD-set-other}
 use mir.Syntax.{w64}
 use mir.Val.{SFits, ofZ, toZ}
 use Rattle.laws.specs.Table.{tabulate}
+use Rattle.laws.proofs.Table.{length-tabulate, getD-tabulate}
 use Rattle.laws.proofs.Is.{Is, known}
 use Rattle.noise.specs.Lines.{at}
-use Rattle.noise.proofs.LineSums.{entry, size, table-is}
+use Rattle.noise.proofs.LineSums.{entry, size}
 use Rattle.normal.proofs.StartSums.{kept}
 use Rattle.normal.proofs.Stored.{Stored, stored, part, part-length, part-at}
 use Rattle.normal.proofs.Order.{lt-or-ge}
+
+-- a list is the table of its entries
+pub table-is : (l : List ℤ) (n : ℕ) (f : ℕ → ℤ) → length l ≡ n → ((i : ℕ) → i < n → at l i ≡ f i) → l ≡ tabulate n f
+table-is l n f e h =
+    ext-getD (pos 0) l (tabulate n f) (e ∙ sym (length-tabulate n f)) (λ i k. let m : i < n = rw e at k in h i m ∙ sym (getD-tabulate n f i (pos 0) m))
 
 -- of a list that was `before`, the first k places have their numbers added
 pub record Adding (more : ℕ → ℤ) (before sums : List ℤ) (k : ℕ) : Type 0 where

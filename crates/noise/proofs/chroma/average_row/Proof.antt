@@ -2,7 +2,7 @@
 use mathlib.Core.Path.{_∙_}
 use borrow.Author.Needs.{needs}
 use Rattle.laws.proofs.Is.{again, self}
-use Rattle.noise.proofs.ChromaSums.{narrow, row-in, columns-are, averages-count, averages-small, squares-lines, squares-sum, products-sum}
+use Rattle.noise.proofs.ChromaSums.{row-in, columns-are, averages-along, squares-lines, squares-sum, products-sum}
 use Rattle.noise.proofs.chroma.average_row.Statement.{statement}
 use Rattle.noise.proofs.chroma.average_row.Tie as tie
 
@@ -17,16 +17,10 @@ dot-wide-requires c κs =
     squares-lines _ (S .pre .0) (S .args .r) (S .pre .2) (c .before .before .before .average-line .ensures)
 
 average-noise-requires : tie.Need-average-noise-requires
-average-noise-requires c κs =
-    let S = c .before .before .before .before .before .before .before .before .before .before .before .before .before .before in
-    let e = c .before .before .before .before .before .average-line .ensures in
-    (S .pre .0 .of-chroma, S .pre .2, narrow _ (S .pre .0), averages-small _ (S .pre .0) (S .args .r) (S .pre .2) e, averages-count _ (S .pre .0) (S .args .r) (S .pre .2) e, S .pre .5)
+average-noise-requires c κs = let S = c .before .before .before .before .before .before .before .before .before .before .before .before .before in averages-along _ (S .pre .0) (S .args .r) (S .pre .2) (c .before .before .before .before .average-line .ensures)
 
 average-noise-requires-2 : tie.Need-average-noise-requires-2
-average-noise-requires-2 c κs =
-    let S = c .before .before .before .before .before .before .before .before .before .before .before .before .before .before .before .before .before in
-    let e = c .before .before .before .before .before .before .before .before .average-line .ensures in
-    (S .pre .1 .of-chroma, S .pre .2, narrow _ (S .pre .1), averages-small _ (S .pre .1) (S .args .r) (S .pre .2) e, averages-count _ (S .pre .1) (S .args .r) (S .pre .2) e, c .before .before .average-noise .kept .1 .1 .1 .1 .1 .1 .0 ∙ S .pre .5)
+average-noise-requires-2 c κs = let S = c .before .before .before .before .before .before .before .before .before .before .before .before .before .before in averages-along _ (S .pre .1) (S .args .r) (S .pre .2) (c .before .before .before .before .before .average-line .ensures)
 
 same-length : tie.Need-same-length
 same-length c = search needs
@@ -34,16 +28,13 @@ same-length c = search needs
 same-length-2 : tie.Need-same-length-2
 same-length-2 c = search needs
 
-same-length-3 : tie.Need-same-length-3
-same-length-3 c = search needs
-
 returns : tie.Need-returns
 returns c =
-    let S = c .before .before .before .before .before .before .before .before .before .before .before .before .before .before .before .before .before .before .before in
-    let e = c .before .before .before .before .before .before .before .before .before .before .average-line .ensures in
-    let squares = c .before .before .before .before .before .before .dot-wide in
-    let blue = c .before .before .before .before .average-noise in
-    let red = c .before .average-noise2 in (
+    let S = c .before .before .before .before .before .before .before .before .before .before .before .before .before .before .before in
+    let e = c .before .before .before .before .before .before .average-line .ensures in
+    let squares = c .before .before .dot-wide in
+    let blue = c .before .average-noise in
+    let red = c .average-noise2 in (
       again (self (record { sfits = squares .ok })) .eq ∙ squares .ensures ∙ squares-sum _ (S .pre .0) (S .args .r) (S .pre .2) e,
       again (self (record { sfits = blue .ok })) .eq ∙ blue .ensures ∙ products-sum _ (S .pre .0) (S .args .r) (S .pre .2) e,
       again (self (record { sfits = red .ok })) .eq ∙ red .ensures ∙ products-sum _ (S .pre .1) (S .args .r) (S .pre .2) e,
@@ -59,5 +50,4 @@ average-row-spec =
     average-noise-requires-2
     same-length
     same-length-2
-    same-length-3
     returns)
