@@ -17,7 +17,7 @@ pub struct AverageSums {
     pub cr: i64,
 }
 
-// average × noise at n columns from `from` on of row y, in an i32.
+// average × noise at n columns from `from` on of row y: an i32 holds 32 of them.
 fn noise_block(
     averages: &[i16],
     src: &[u16],
@@ -43,17 +43,17 @@ fn noise_block(
     sum
 }
 
-// average × noise along row y of a chroma plane, w wide, in blocks of 32.
+// average × noise along row y of a chroma plane, w wide. In blocks of 16 the back end fills its packed multiply-adds.
 fn average_noise(averages: &[i16], src: &[u16], den: &[u16], w: usize, h: usize, y: usize) -> i64
     requires { ⌜ Along (now averages) (now src) (now den) w h y ⌝ }
     ensures { λ s. ⌜ s ≡ sumTo (along (now (averages .entry)) (now (src .entry)) (now (den .entry)) w y) w ⌝ }
 {
     let mut sum = 0i64;
     let mut from = 0usize;
-    while 32usize <= w - from {
-        let part = noise_block(averages, src, den, w, h, y, from, 32usize) as i64;
+    while 16usize <= w - from {
+        let part = noise_block(averages, src, den, w, h, y, from, 16usize) as i64;
         sum = sum + part;
-        from += 32usize;
+        from += 16usize;
     }
     let rest = noise_block(averages, src, den, w, h, y, from, w - from) as i64;
     sum + rest

@@ -36,10 +36,10 @@ cast-part c = fits (wide64 (c .noise-block .result) (record { sfits = c .noise-b
 -- the sum with a block more
 added : (c : tie.After-noise-block Inv-loop μ-loop) → let A = c .before .before .before .before .before .args in
     let H = c .before .before .loop in
-    Is w64 (toZ w64 (H .sum) +ℤ toZ w64 (ofZ w64 (toZ w32 (ofZ w32 (c .noise-block .result))))) (sumTo (along (A .averages .now) (A .src .now) (A .den .now) (A .w) (A .y)) (H .from + 32))
+    Is w64 (toZ w64 (H .sum) +ℤ toZ w64 (ofZ w64 (toZ w32 (ofZ w32 (c .noise-block .result))))) (sumTo (along (A .averages .now) (A .src .now) (A .den .now) (A .w) (A .y)) (H .from + 16))
 added c =
     let H = c .before .before .loop in
-    row-more (c .before .before .before .before .before .pre) (H .from) 32 (c .noise-block .result) (omega arith) (H .inv .1) (record { sfits = c .noise-block .ok }) (c .noise-block .ensures)
+    row-more (c .before .before .before .before .before .pre) (H .from) 16 (c .noise-block .result) (omega arith) (H .inv .1) (record { sfits = c .noise-block .ok }) (c .noise-block .ensures)
 
 add-sum : tie.Need-add-sum Inv-loop μ-loop
 add-sum c = fits (added c)
