@@ -14,7 +14,6 @@ pub use chroma::AverageSums;
 pub use chroma::average_products;
 pub use line::blank_line;
 pub use line::noise_line;
-pub use line::noise_row;
 pub use line::shifted_line;
 pub use rows::Grid;
 pub use rows::grid_products;
