@@ -2,13 +2,11 @@
 use mathlib.Core.Path.{_≡_, sym, ap, _∙_}
 use mathlib.Core.List.{List}
 use Prim.Native.Nat.{ℕ, _+_, _*_, _^_, _≤_, _<_}
-use native.Mathlib.Nat.{le-of-eq, le-trans, lt-of-lt-of-le, add-comm, mul-one, mul-comm, suc-mul, mul-le-mul-right}
+use native.Mathlib.Nat.{le-of-eq, le-trans, lt-of-lt-of-le, add-comm, mul-comm, suc-mul, mul-le-mul-right}
 use native.Mathlib.Omega.{arith}
 use lib.Arith.{digits-lt}
 use lib.IntN.{ℤ, natAbs}
 use lib.ListN.{length}
-use Rattle.laws.specs.Table.{tabulate}
-use Rattle.laws.proofs.Table.{tabulate-same}
 use Rattle.laws.proofs.Sums.{sum-ext}
 use Rattle.noise.specs.Noise.{noise, place}
 use Rattle.noise.specs.Lines.{Places, Plane}
@@ -44,11 +42,6 @@ module _ {w h : ℕ} {source denoised : List ℕ} (P : Plane w h source denoised
 
   pub plane-rows : (start n : ℕ) → start + n ≤ w → Rows source denoised (columnsFrom w start) h n
   plane-rows start n m r l = row-places (start + r * w) r start n (add-comm start (r * w)) l m
-
--- a row, filled with a stride of 1
-pub row-line : (source denoised : List ℕ) (w y : ℕ) {n : ℕ} → n ≡ w
-    → tabulate n (λ i. noise source denoised (y * w + i * 1)) ≡ tabulate w (λ x. noise source denoised (place w y x))
-row-line source denoised w y e = rw e (tabulate-same w _ _ (λ i l. ap (λ (k : ℕ). noise source denoised (y * w + k)) (mul-one i)))
 
 -- sums over rows and columns, counted as m
 pub over-plane : (h n : ℕ) {m : ℕ} (f g : ℕ → ℕ → ℤ) → m ≡ n → ((r c : ℕ) → f r c ≡ g r c) → sumOver h m f ≡ sumOver h n g

@@ -19,3 +19,4 @@ pub mod Quarters
 pub mod Averages
 pub mod ChromaSize
 pub mod ChromaSums
+pub mod AlongRows

@@ -13,6 +13,10 @@ at line i = getD line i (pos 0)
 abbrev pub product : List ℤ → List ℤ → ℕ → ℤ
 product p q i = at p i *ℤ at q i
 
+-- every number of a line is at most m in size
+abbrev pub Within : ℕ → List ℤ → Type 0
+Within m line = (i : ℕ) → i < length line → natAbs (at line i) ≤ m
+
 -- every sample of a plane is below c
 abbrev pub Below : ℕ → List ℕ → Type 0
 Below c plane = (i : ℕ) → i < length plane → getD plane i 0 < c

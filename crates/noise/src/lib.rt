@@ -7,7 +7,6 @@ mod rows;
 mod sums;
 
 pub use average::average_line;
-pub use average::quarters_line;
 pub use average::sub_x;
 pub use average::sub_y;
 pub use blocks::dot;
@@ -16,7 +15,6 @@ pub use chroma::AverageSums;
 pub use chroma::average_products;
 pub use line::blank_line;
 pub use line::noise_line;
-pub use line::noise_row;
 pub use line::shifted_line;
 pub use rows::Grid;
 pub use rows::PairSums;
