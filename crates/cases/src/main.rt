@@ -1,13 +1,26 @@
 // Runs the scope's cases that are not proved about the definitions, and writes a line for each: its name and the figure that came out.
 mod bins;
+mod case;
+mod casts;
+mod digests;
+mod draws;
+mod frame_calls;
+mod gate_calls;
 mod gates;
 mod least;
+mod lines;
+mod number_calls;
+mod plane_calls;
+mod planes;
 mod questions;
+mod replay;
 mod say;
+mod systems;
 
 fn main() {
     bins::run();
     least::run();
     gates::run();
     questions::run();
+    replay::run();
 }
