@@ -21,8 +21,10 @@ fn more(x: u64, b: u8) -> u64 {
     std::num::wrapping_add_u64(ten, (b % 48) as u64)
 }
 
+// The line that begins at a place.
 pub fn line_at(text: &[u8], at: usize) -> Line
-    ensures { λ r. ⌜ (at < length (now (text .entry)) → at < r .next) ⌝ }
+    requires { ⌜ at < length (now text) ⌝ }
+    ensures { λ r. ⌜ at < r .next ⌝ }
 {
     let mut numbers = [0u64; 13];
     let mut k = 0;
