@@ -122,11 +122,21 @@ fn drawn(r: Recipe, common: u32, own: u32) -> u32 {
     own
 }
 
+// The first pair's noise may be an eighth of the others'.
+fn lessened(r: Recipe, size: u16) -> u16 {
+    if r.first {
+        if r.kind / 16 == 3 {
+            return size >> 3;
+        }
+    }
+    size
+}
+
 fn pair(r: Recipe, column: u64, common: u32, own: u32) -> Samples {
     let draw = drawn(r, common, own);
     let noise = r.kind % 16;
     let rises = is_up(noise, column, draw);
-    let size = size_of(noise, r.top, column, draw);
+    let size = lessened(r, size_of(noise, r.top, column, draw));
     let den = level_of(r.kind, r.top, rises, own);
     if rises {
         return Samples {
