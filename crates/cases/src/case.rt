@@ -31,6 +31,13 @@ pub struct Answer {
     pub value: u64,
 }
 
+pub fn nothing() -> Answer {
+    Answer {
+        refusal: 0,
+        value: 0,
+    }
+}
+
 pub fn case_of(n: [u64; 13]) -> Case {
     Case {
         kind: n[2],

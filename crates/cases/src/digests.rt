@@ -1,5 +1,6 @@
 // Many values as one number.
 use crate::casts::bits;
+use crate::casts::signed;
 use crate::casts::wide16;
 use crate::draws::mixed;
 
@@ -28,6 +29,16 @@ pub fn floats_into(digest: u64, values: &[f64]) -> u64 {
     let mut i = 0;
     while i < values.len() {
         d = mixed(d, bits(values[i]));
+        i += 1;
+    }
+    d
+}
+
+pub fn coefficients_into(digest: u64, values: &[i32]) -> u64 {
+    let mut d = digest;
+    let mut i = 0;
+    while i < values.len() {
+        d = mixed(d, signed(values[i]));
         i += 1;
     }
     d

@@ -1,9 +1,11 @@
-// The calls on a frame.
+// The calls on a frame. Its planes are made pair by pair, each by a function of its own.
 use crate::case::Answer;
 use crate::case::Case;
+use crate::case::case_of;
 use crate::case::lent;
 use crate::case::make_chroma;
 use crate::case::make_luma;
+use crate::case::nothing;
 use crate::case::shape_of;
 use crate::casts::signed;
 use crate::digests::numbers_into;
@@ -22,54 +24,49 @@ fn denoise_into(
     dcb: &mut [u16],
     dcr: &mut [u16],
 ) -> Answer {
-    let refusal = denoise::denoise_frame(
-        shape_of(c),
-        front(y, lent(c.fault, c.luma, 1)),
-        front(cb, lent(c.fault, c.chroma, 2)),
-        front(cr, lent(c.fault, c.chroma, 3)),
-        dy,
-        dcb,
-        dcr,
-    );
+    let refusal = denoise::denoise_frame(shape_of(c), y, cb, cr, dy, dcb, dcr);
     Answer {
         refusal,
         value: samples_into(samples_into(samples_into(0, dy), dcb), dcr),
     }
 }
 
+fn denoise_cr(c: Case, y: &[u16], cb: &[u16], dy: &mut [u16], dcb: &mut [u16]) -> Answer {
+    let mut cr = blank();
+    let mut dcr = blank();
+    make_chroma(&mut cr, &mut dcr, c, 3);
+    let n = lent(c.fault, c.chroma, 6);
+    if n <= 8256 {
+        let source = front(&cr, lent(c.fault, c.chroma, 3));
+        return denoise_into(c, y, cb, source, dy, dcb, &mut dcr[0..n]);
+    }
+    nothing()
+}
+
+fn denoise_cb(c: Case, y: &[u16], dy: &mut [u16]) -> Answer {
+    let mut cb = blank();
+    let mut dcb = blank();
+    make_chroma(&mut cb, &mut dcb, c, 2);
+    let n = lent(c.fault, c.chroma, 5);
+    if n <= 8256 {
+        let source = front(&cb, lent(c.fault, c.chroma, 2));
+        return denoise_cr(c, y, source, dy, &mut dcb[0..n]);
+    }
+    nothing()
+}
+
 // The destinations as a digest, after a refusal too.
-pub fn denoise_frame(c: Case) -> Answer {
-    let ny = lent(c.fault, c.luma, 4);
-    let nb = lent(c.fault, c.chroma, 5);
-    let nr = lent(c.fault, c.chroma, 6);
-    if ny <= 8256 {
-        if nb <= 8256 {
-            if nr <= 8256 {
-                let mut y = blank();
-                let mut dy = blank();
-                let mut cb = blank();
-                let mut dcb = blank();
-                let mut cr = blank();
-                let mut dcr = blank();
-                make_luma(&mut y, &mut dy, c, 1);
-                make_chroma(&mut cb, &mut dcb, c, 2);
-                make_chroma(&mut cr, &mut dcr, c, 3);
-                return denoise_into(
-                    c,
-                    &y,
-                    &cb,
-                    &cr,
-                    &mut dy[0..ny],
-                    &mut dcb[0..nb],
-                    &mut dcr[0..nr],
-                );
-            }
-        }
+pub fn denoise_frame(numbers: [u64; 13]) -> Answer {
+    let c = case_of(numbers);
+    let mut y = blank();
+    let mut dy = blank();
+    make_luma(&mut y, &mut dy, c, 1);
+    let n = lent(c.fault, c.luma, 4);
+    if n <= 8256 {
+        let source = front(&y, lent(c.fault, c.luma, 1));
+        return denoise_cb(c, source, &mut dy[0..n]);
     }
-    Answer {
-        refusal: 0,
-        value: 0,
-    }
+    nothing()
 }
 
 fn luma_into(digest: u64, sigma16: u64, bins: &[u64; 8]) -> u64 {
@@ -122,48 +119,48 @@ fn correlation_of(
     }
 }
 
-fn ask(
-    c: Case,
-    is_profile: bool,
-    y: &[u16],
-    cb: &[u16],
-    cr: &[u16],
-    dy: &[u16],
-    dcb: &[u16],
-    dcr: &[u16],
-) -> Answer {
+fn ask_cr(c: Case, is_profile: bool, y: &[u16], dy: &[u16], cb: &[u16], dcb: &[u16]) -> Answer {
+    let mut all_cr = blank();
+    let mut all_dcr = blank();
+    make_chroma(&mut all_cr, &mut all_dcr, c, 3);
+    let cr = front(&all_cr, lent(c.fault, c.chroma, 3));
+    let dcr = front(&all_dcr, lent(c.fault, c.chroma, 6));
     if is_profile {
         return profile_of(shape_of(c), y, cb, cr, dy, dcb, dcr);
     }
     correlation_of(shape_of(c), y, cb, cr, dy, dcb, dcr)
 }
 
-fn with_planes(c: Case, is_profile: bool) -> Answer {
-    let mut y = blank();
+fn ask_cb(c: Case, is_profile: bool, y: &[u16], dy: &[u16]) -> Answer {
     let mut cb = blank();
-    let mut cr = blank();
-    let mut dy = blank();
     let mut dcb = blank();
-    let mut dcr = blank();
-    make_luma(&mut y, &mut dy, c, 1);
     make_chroma(&mut cb, &mut dcb, c, 2);
-    make_chroma(&mut cr, &mut dcr, c, 3);
-    ask(
+    ask_cr(
         c,
         is_profile,
-        front(&y, lent(c.fault, c.luma, 1)),
+        y,
+        dy,
         front(&cb, lent(c.fault, c.chroma, 2)),
-        front(&cr, lent(c.fault, c.chroma, 3)),
-        front(&dy, lent(c.fault, c.luma, 4)),
         front(&dcb, lent(c.fault, c.chroma, 5)),
-        front(&dcr, lent(c.fault, c.chroma, 6)),
     )
 }
 
-pub fn noise_estimate(c: Case) -> Answer {
-    with_planes(c, true)
+fn ask(c: Case, is_profile: bool) -> Answer {
+    let mut y = blank();
+    let mut dy = blank();
+    make_luma(&mut y, &mut dy, c, 1);
+    ask_cb(
+        c,
+        is_profile,
+        front(&y, lent(c.fault, c.luma, 1)),
+        front(&dy, lent(c.fault, c.luma, 4)),
+    )
 }
 
-pub fn fit_chroma_corr(c: Case) -> Answer {
-    with_planes(c, false)
+pub fn noise_estimate(numbers: [u64; 13]) -> Answer {
+    ask(case_of(numbers), true)
+}
+
+pub fn fit_chroma_corr(numbers: [u64; 13]) -> Answer {
+    ask(case_of(numbers), false)
 }

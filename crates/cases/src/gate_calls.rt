@@ -1,6 +1,7 @@
 // The gates, on two frames.
 use crate::case::Answer;
 use crate::case::Case;
+use crate::case::case_of;
 use crate::case::lent;
 use crate::case::make_chroma;
 use crate::case::make_luma;
@@ -17,7 +18,8 @@ fn luma_of(c: Case, y0: &[u16], d0: &[u16], y1: &[u16], d1: &[u16]) -> Answer {
     }
 }
 
-pub fn film_grain_probe(c: Case) -> Answer {
+pub fn film_grain_probe(numbers: [u64; 13]) -> Answer {
+    let c = case_of(numbers);
     let mut y0 = blank();
     let mut d0 = blank();
     let mut y1 = blank();
@@ -41,7 +43,8 @@ fn chroma_of(c: Case, c0: &[u16], d0: &[u16], c1: &[u16], d1: &[u16]) -> Answer 
     }
 }
 
-pub fn chroma_noise_gate(c: Case) -> Answer {
+pub fn chroma_noise_gate(numbers: [u64; 13]) -> Answer {
+    let c = case_of(numbers);
     let mut c0 = blank();
     let mut d0 = blank();
     let mut c1 = blank();

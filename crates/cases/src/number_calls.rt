@@ -9,6 +9,7 @@ use crate::casts::size;
 use crate::casts::wide;
 use crate::casts::wide16;
 use crate::casts::yes;
+use crate::digests::coefficients_into;
 use crate::digests::floats_into;
 use crate::draws::mixed;
 use crate::systems::matrix;
@@ -17,10 +18,10 @@ use random::Draw;
 use random::RandomRegister;
 
 // Whether there is a solution, its order and its values as a digest.
-pub fn solve_normal(kind: u64, order: u64, seed: u64) -> Answer {
-    let a = matrix(kind, low32(seed));
-    let b = row(0, 25, low32(seed));
-    let s = solve::solve_normal(a, b, size(order));
+pub fn solve_normal(numbers: [u64; 13]) -> Answer {
+    let a = matrix(numbers[2], low32(numbers[4]));
+    let b = row(0, 25, low32(numbers[4]));
+    let s = solve::solve_normal(a, b, size(numbers[3]));
     let solution = s.solution;
     let values = solution.values;
     let head = mixed(mixed(0, yes(s.found)), count(solution.order));
@@ -30,23 +31,39 @@ pub fn solve_normal(kind: u64, order: u64, seed: u64) -> Answer {
     }
 }
 
-pub fn quant_ar(bits: u64) -> Answer {
+fn offsets_into(digest: u64, offsets: &[i32; 24]) -> u64 {
+    coefficients_into(digest, offsets)
+}
+
+// The count, the rows and the columns as a digest.
+pub fn ar_positions(numbers: [u64; 13]) -> Answer {
+    let p = positions::ar_positions(size(numbers[2]));
+    let rows = p.rows;
+    let columns = p.columns;
+    let head = mixed(0, count(p.count));
     Answer {
-        refusal: 0,
-        value: signed(float::quant_ar(float_of(bits))),
+        refusal: p.refusal,
+        value: offsets_into(offsets_into(head, &rows), &columns),
     }
 }
 
-pub fn grain_seed_for(hint: u64) -> Answer {
+pub fn quant_ar(numbers: [u64; 13]) -> Answer {
     Answer {
         refusal: 0,
-        value: wide16(random::grain_seed_for(low32(hint))),
+        value: signed(float::quant_ar(float_of(numbers[2]))),
+    }
+}
+
+pub fn grain_seed_for(numbers: [u64; 13]) -> Answer {
+    Answer {
+        refusal: 0,
+        value: wide16(random::grain_seed_for(low32(numbers[2]))),
     }
 }
 
 // The bits drawn, above the 16 bits of the state afterwards.
-pub fn random_register(state: u64, bits: u64) -> Answer {
-    let s = RandomRegister::new(low16(state)).stepped(low32(bits));
+pub fn random_register(numbers: [u64; 13]) -> Answer {
+    let s = RandomRegister::new(low16(numbers[2])).stepped(low32(numbers[3]));
     let after = s.register;
     let draw = s.draw;
     match draw {

@@ -1,8 +1,10 @@
 // The calls on a lone plane.
 use crate::case::Answer;
 use crate::case::Case;
+use crate::case::case_of;
 use crate::case::lent;
 use crate::case::make_luma;
+use crate::case::nothing;
 use crate::casts::bits;
 use crate::casts::low8;
 use crate::casts::size;
@@ -19,7 +21,8 @@ fn denoise_into(c: Case, src: &[u16], dst: &mut [u16]) -> Answer {
 }
 
 // The destination as a digest, after a refusal too.
-pub fn denoise_plane(c: Case) -> Answer {
+pub fn denoise_plane(numbers: [u64; 13]) -> Answer {
+    let c = case_of(numbers);
     let mut src = blank();
     let mut dst = blank();
     make_luma(&mut src, &mut dst, c, 1);
@@ -27,10 +30,7 @@ pub fn denoise_plane(c: Case) -> Answer {
     if n <= 8256 {
         return denoise_into(c, front(&src, lent(c.fault, c.luma, 1)), &mut dst[0..n]);
     }
-    Answer {
-        refusal: 0,
-        value: 0,
-    }
+    nothing()
 }
 
 fn sigma_of(c: Case, src: &[u16], den: &[u16]) -> Answer {
@@ -41,7 +41,8 @@ fn sigma_of(c: Case, src: &[u16], den: &[u16]) -> Answer {
     }
 }
 
-pub fn plane_sigma16(c: Case) -> Answer {
+pub fn plane_sigma16(numbers: [u64; 13]) -> Answer {
+    let c = case_of(numbers);
     let mut src = blank();
     let mut den = blank();
     make_luma(&mut src, &mut den, c, 1);
@@ -66,7 +67,8 @@ fn rho_of(c: Case, src: &[u16], den: &[u16]) -> Answer {
 }
 
 // The correlation as its bits.
-pub fn lag_h_rho(c: Case) -> Answer {
+pub fn lag_h_rho(numbers: [u64; 13]) -> Answer {
+    let c = case_of(numbers);
     let mut src = blank();
     let mut den = blank();
     make_luma(&mut src, &mut den, c, 1);

@@ -1,6 +1,5 @@
 // The recorded list: what the Rust answered, and the numbers of each refused call, against what the calls answer here.
 use crate::case::Answer;
-use crate::case::case_of;
 use crate::frame_calls;
 use crate::gate_calls;
 use crate::lines::line_at;
@@ -19,6 +18,7 @@ enum Call {
     FilmGrainProbe,
     ChromaNoiseGate,
     FitChromaCorr,
+    ArPositions,
     SolveNormal,
     QuantAr,
     GrainSeedFor,
@@ -27,18 +27,19 @@ enum Call {
 
 fn answer(call: Call, n: [u64; 13]) -> Answer {
     match call {
-        Call::DenoisePlane => plane_calls::denoise_plane(case_of(n)),
-        Call::DenoiseFrame => frame_calls::denoise_frame(case_of(n)),
-        Call::PlaneSigma16 => plane_calls::plane_sigma16(case_of(n)),
-        Call::NoiseEstimate => frame_calls::noise_estimate(case_of(n)),
-        Call::LagHRho => plane_calls::lag_h_rho(case_of(n)),
-        Call::FilmGrainProbe => gate_calls::film_grain_probe(case_of(n)),
-        Call::ChromaNoiseGate => gate_calls::chroma_noise_gate(case_of(n)),
-        Call::FitChromaCorr => frame_calls::fit_chroma_corr(case_of(n)),
-        Call::SolveNormal => number_calls::solve_normal(n[2], n[3], n[4]),
-        Call::QuantAr => number_calls::quant_ar(n[2]),
-        Call::GrainSeedFor => number_calls::grain_seed_for(n[2]),
-        Call::RandomRegister => number_calls::random_register(n[2], n[3]),
+        Call::DenoisePlane => plane_calls::denoise_plane(n),
+        Call::DenoiseFrame => frame_calls::denoise_frame(n),
+        Call::PlaneSigma16 => plane_calls::plane_sigma16(n),
+        Call::NoiseEstimate => frame_calls::noise_estimate(n),
+        Call::LagHRho => plane_calls::lag_h_rho(n),
+        Call::FilmGrainProbe => gate_calls::film_grain_probe(n),
+        Call::ChromaNoiseGate => gate_calls::chroma_noise_gate(n),
+        Call::FitChromaCorr => frame_calls::fit_chroma_corr(n),
+        Call::ArPositions => number_calls::ar_positions(n),
+        Call::SolveNormal => number_calls::solve_normal(n),
+        Call::QuantAr => number_calls::quant_ar(n),
+        Call::GrainSeedFor => number_calls::grain_seed_for(n),
+        Call::RandomRegister => number_calls::random_register(n),
     }
 }
 
@@ -47,6 +48,17 @@ fn say_answer(refusal: u64, value: u64) {
     io::print_decimal(STDOUT_FILENO, refusal);
     io::write_all(STDOUT_FILENO, b" answer ");
     io::print_decimal(STDOUT_FILENO, value);
+}
+
+fn say_difference(name: &[u8], line: usize, refusal: u64, value: u64, n: [u64; 13]) {
+    io::write_all(STDOUT_FILENO, name);
+    io::write_all(STDOUT_FILENO, b" line ");
+    io::print_decimal(STDOUT_FILENO, line as u64);
+    io::write_all(STDOUT_FILENO, b":");
+    say_answer(refusal, value);
+    io::write_all(STDOUT_FILENO, b", recorded");
+    say_answer(n[0], n[1]);
+    io::write_all(STDOUT_FILENO, b"\n");
 }
 
 // 1 where a line's answer is another than the recorded one, which is then written.
@@ -60,14 +72,7 @@ fn difference(name: &[u8], call: Call, line: usize, n: [u64; 13]) -> usize
             return 0;
         }
     }
-    io::write_all(STDOUT_FILENO, name);
-    io::write_all(STDOUT_FILENO, b" line ");
-    io::print_decimal(STDOUT_FILENO, line as u64);
-    io::write_all(STDOUT_FILENO, b":");
-    say_answer(refusal, a.value);
-    io::write_all(STDOUT_FILENO, b", recorded");
-    say_answer(n[0], n[1]);
-    io::write_all(STDOUT_FILENO, b"\n");
+    say_difference(name, line, refusal, a.value, n);
     1
 }
 
@@ -107,17 +112,30 @@ fn replay(name: &[u8], call: Call) {
     compare(name, call, &list[..n]);
 }
 
-pub fn run() {
+fn on_planes() {
     replay(b"denoise_plane", Call::DenoisePlane);
-    replay(b"denoise_frame", Call::DenoiseFrame);
     replay(b"plane_sigma16", Call::PlaneSigma16);
-    replay(b"noise_estimate", Call::NoiseEstimate);
     replay(b"lag_h_rho", Call::LagHRho);
     replay(b"film_grain_probe", Call::FilmGrainProbe);
     replay(b"chroma_noise_gate", Call::ChromaNoiseGate);
+}
+
+fn on_frames() {
+    replay(b"denoise_frame", Call::DenoiseFrame);
+    replay(b"noise_estimate", Call::NoiseEstimate);
     replay(b"fit_chroma_corr", Call::FitChromaCorr);
+}
+
+fn on_numbers() {
+    replay(b"ar_positions", Call::ArPositions);
     replay(b"solve_normal", Call::SolveNormal);
     replay(b"quant_ar", Call::QuantAr);
     replay(b"grain_seed_for", Call::GrainSeedFor);
     replay(b"random_register", Call::RandomRegister);
+}
+
+pub fn run() {
+    on_planes();
+    on_frames();
+    on_numbers();
 }

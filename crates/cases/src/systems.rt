@@ -24,7 +24,7 @@ fn entry(kind: u64, r: u64, c: u64, draw: u32) -> f64 {
         5 => if even { 0.0 } else { x },
         6 => if r % 2 == 0 { x * 1e306 } else { x / 1048576.0 },
         7 => if rare { 0.0 / 0.0 } else { x },
-        8 => if r == c { x * 1e-11 } else { 0.0 },
+        8 => if r == c { x * 1e-10 } else { 0.0 },
         9 => if r == c { 1e-9 } else { 0.0 },
         _ => x,
     }

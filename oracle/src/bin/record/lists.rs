@@ -33,6 +33,7 @@ pub fn all() -> Vec<(&'static str, Lines)> {
         ("film_grain_probe", on_planes(Call::FilmGrainProbe, 200)),
         ("chroma_noise_gate", on_planes(Call::ChromaNoiseGate, 200)),
         ("fit_chroma_corr", on_planes(Call::FitChromaCorr, 150)),
+        ("ar_positions", positions()),
         ("solve_normal", systems()),
         ("quant_ar", coefficients()),
         ("grain_seed_for", seeds()),
@@ -288,6 +289,22 @@ fn refused(call: Call) -> Vec<Case> {
         });
     }
     cases
+}
+
+/// The neighbours of each lag, and the lags that are refused.
+fn positions() -> Lines {
+    let accepted = (0..4).map(|lag| {
+        let places = reach::ar_positions(lag);
+        let padded = |part: fn(&(i32, i32)) -> i32| {
+            let mut all: Vec<u64> = places.iter().map(|p| signed(part(p))).collect();
+            all.resize(24, 0);
+            all
+        };
+        let parts = [vec![places.len() as u64], padded(|p| p.0), padded(|p| p.1)];
+        vec![0, digest(parts.into_iter().flatten()), lag as u64]
+    });
+    let refused = [4, 5, u64::MAX].map(|lag| vec![7, 0, lag]);
+    accepted.chain(refused).collect()
 }
 
 /// The solver: every kind of equations at orders from 1 to 25, and the orders that are refused.

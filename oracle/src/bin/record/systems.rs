@@ -14,7 +14,7 @@ fn entry(kind: u64, r: usize, c: usize, draw: u32) -> f64 {
         6 if r % 2 == 0 => x * 1e306,
         6 => x / 1048576.0,
         7 if rare => f64::NAN,
-        8 if r == c => x * 1e-11,
+        8 if r == c => x * 1e-10,
         9 if r == c => 1e-9,
         8 | 9 => 0.0,
         _ => x,

@@ -2,7 +2,7 @@
 use mathlib.Core.Path.{_∙_, sym, subst}
 use mathlib.Core.Bool.{Bool, not}
 use lib.Dec.{T}
-use lib.Ieee.{binary64, ones, hid, top}
+use lib.Ieee.{binary64}
 use lib.Ieee.Bits.{nanBits-above}
 use borrow.Author.Needs.{needs}
 use borrow.Author.Tests.{le-ltb}
@@ -13,7 +13,6 @@ returns : tie.Need-returns
 returns c = search needs
 
 float-from-bits-result : tie.Need-float-from-bits-result
-unfolding ones hid top
 float-from-bits-result c =
     subst (λ (b : Bool). T (not b)) (sym (nanBits-above binary64 (c .before .args .n) ∙ le-ltb _ _ (c .if1 .left))) tt
 
