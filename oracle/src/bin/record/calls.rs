@@ -38,6 +38,15 @@ impl Call {
         }
     }
 
+    /// The noises by which a gate often says yes, and a fit is often found.
+    pub fn likely(self) -> &'static [u64] {
+        match self {
+            Call::FilmGrainProbe | Call::ChromaNoiseGate => &[0, 5, 16, 21],
+            Call::FitArLag => &[0, 1, 16, 17, 21, 23, 48],
+            _ => &[],
+        }
+    }
+
     fn pairs(self, case: &Case) -> Vec<Pair> {
         match self {
             Call::DenoisePlane | Call::PlaneSigma16 | Call::LagHRho => vec![case.luma_pair(1)],

@@ -33,6 +33,7 @@ pub fn all() -> Vec<(&'static str, Lines)> {
         ("film_grain_probe", on_planes(Call::FilmGrainProbe, 200)),
         ("chroma_noise_gate", on_planes(Call::ChromaNoiseGate, 200)),
         ("fit_chroma_corr", on_planes(Call::FitChromaCorr, 150)),
+        ("fit_ar_lag", on_planes(Call::FitArLag, 150)),
         ("ar_positions", positions()),
         ("solve_normal", systems()),
         ("quant_ar", coefficients()),
@@ -124,13 +125,15 @@ fn on_planes(call: Call, random: u64) -> Lines {
             });
         }
     }
-    // The first noise much smaller than the others, and few shared noises, and all sizes.
+    // Any noise and size; every other one likely to pass a gate or to have a fit.
+    let likely = call.likely();
     for i in 0..random {
-        let (width, height) = (c.of(&SIDES), c.of(&SIDES));
-        let tested = matches!(call, Call::FilmGrainProbe | Call::ChromaNoiseGate) && i % 2 == 0;
+        let tested = !likely.is_empty() && i % 2 == 0;
+        let sides = if tested { &SIDES[6..] } else { &SIDES[..] };
+        let (width, height) = (c.of(sides), c.of(sides));
         cases.push(Case {
             kind: if tested {
-                c.of(&[0, 5, 16, 21])
+                c.of(likely)
             } else {
                 c.below(NOISES) + 16 * c.below(4)
             },
@@ -139,7 +142,7 @@ fn on_planes(call: Call, random: u64) -> Lines {
             height,
             depth: depth(&mut c),
             format: format(&mut c),
-            argument: if tested {
+            argument: if tested && call == Call::ChromaNoiseGate {
                 40
             } else {
                 argument(call, &mut c, width)
@@ -158,6 +161,9 @@ fn on_planes(call: Call, random: u64) -> Lines {
             argument: argument(call, &mut c, width),
             ..Case::default()
         });
+    }
+    if call == Call::FitArLag {
+        cases.extend(around_lags(&mut c));
     }
     // Empty planes, which a frame may not have.
     for (width, height) in [
@@ -181,6 +187,37 @@ fn on_planes(call: Call, random: u64) -> Lines {
         case.seed = i as u32 + 1;
     }
     cases.iter().map(|case| line(call, case)).collect()
+}
+
+/// Luma and chroma planes around the least sizes that have a fit.
+fn around_lags(c: &mut Choice) -> Vec<Case> {
+    let mut cases = Vec::new();
+    for lag in 1..=3 {
+        for width in [
+            1,
+            lag,
+            2 * lag,
+            2 * lag + 1,
+            2 * lag + 2,
+            4 * lag,
+            4 * lag + 1,
+            4 * lag + 2,
+        ] {
+            for height in [lag, lag + 1, 2 * lag, 2 * lag + 1, 4 * lag + 3] {
+                cases.push(Case {
+                    kind: c.of(&[0, 1, 5, 9, 12]) + 16 * c.below(4),
+                    share: c.below(17),
+                    width,
+                    height,
+                    depth: c.of(&DEPTHS),
+                    format: c.below(4),
+                    argument: lag as u64,
+                    ..Case::default()
+                });
+            }
+        }
+    }
+    cases
 }
 
 /// A call that is accepted.
