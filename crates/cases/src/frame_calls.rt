@@ -7,13 +7,24 @@ use crate::case::make_chroma;
 use crate::case::make_luma;
 use crate::case::nothing;
 use crate::case::shape_of;
+use crate::casts::count;
 use crate::casts::signed;
+use crate::casts::size;
+use crate::casts::yes;
+use crate::digests::coefficients_into;
 use crate::digests::numbers_into;
 use crate::digests::samples_into;
 use crate::draws::mixed;
 use crate::planes::blank;
 use crate::planes::front;
 use frame::Shape;
+
+// What is asked of a frame and its denoised copy.
+enum Figure {
+    Profile,
+    Correlation,
+    Fit,
+}
 
 fn denoise_into(
     c: Case,
@@ -119,25 +130,58 @@ fn correlation_of(
     }
 }
 
-fn ask_cr(c: Case, is_profile: bool, y: &[u16], dy: &[u16], cb: &[u16], dcb: &[u16]) -> Answer {
+fn luma_taps_into(digest: u64, taps: &[i32; 24]) -> u64 {
+    coefficients_into(digest, taps)
+}
+
+fn chroma_taps_into(digest: u64, taps: &[i32; 25]) -> u64 {
+    coefficients_into(digest, taps)
+}
+
+// Whether there is a fit, the count and the coefficients as a digest.
+fn fit_of(
+    s: Shape,
+    y: &[u16],
+    cb: &[u16],
+    cr: &[u16],
+    dy: &[u16],
+    dcb: &[u16],
+    dcr: &[u16],
+    lag: usize,
+) -> Answer {
+    let f = fit::fit_ar_lag(s, y, cb, cr, dy, dcb, dcr, lag);
+    let luma = f.luma;
+    let blue = f.cb;
+    let red = f.cr;
+    let head = mixed(mixed(0, yes(f.found)), count(f.count));
+    let taps = chroma_taps_into(luma_taps_into(head, &luma), &blue);
+    Answer {
+        refusal: f.refusal,
+        value: chroma_taps_into(taps, &red),
+    }
+}
+
+fn ask_cr(c: Case, figure: Figure, y: &[u16], dy: &[u16], cb: &[u16], dcb: &[u16]) -> Answer {
     let mut all_cr = blank();
     let mut all_dcr = blank();
     make_chroma(&mut all_cr, &mut all_dcr, c, 3);
     let cr = front(&all_cr, lent(c.fault, c.chroma, 3));
     let dcr = front(&all_dcr, lent(c.fault, c.chroma, 6));
-    if is_profile {
-        return profile_of(shape_of(c), y, cb, cr, dy, dcb, dcr);
+    let s = shape_of(c);
+    match figure {
+        Figure::Profile => profile_of(s, y, cb, cr, dy, dcb, dcr),
+        Figure::Correlation => correlation_of(s, y, cb, cr, dy, dcb, dcr),
+        Figure::Fit => fit_of(s, y, cb, cr, dy, dcb, dcr, size(c.argument)),
     }
-    correlation_of(shape_of(c), y, cb, cr, dy, dcb, dcr)
 }
 
-fn ask_cb(c: Case, is_profile: bool, y: &[u16], dy: &[u16]) -> Answer {
+fn ask_cb(c: Case, figure: Figure, y: &[u16], dy: &[u16]) -> Answer {
     let mut cb = blank();
     let mut dcb = blank();
     make_chroma(&mut cb, &mut dcb, c, 2);
     ask_cr(
         c,
-        is_profile,
+        figure,
         y,
         dy,
         front(&cb, lent(c.fault, c.chroma, 2)),
@@ -145,22 +189,26 @@ fn ask_cb(c: Case, is_profile: bool, y: &[u16], dy: &[u16]) -> Answer {
     )
 }
 
-fn ask(c: Case, is_profile: bool) -> Answer {
+fn ask(c: Case, figure: Figure) -> Answer {
     let mut y = blank();
     let mut dy = blank();
     make_luma(&mut y, &mut dy, c, 1);
     ask_cb(
         c,
-        is_profile,
+        figure,
         front(&y, lent(c.fault, c.luma, 1)),
         front(&dy, lent(c.fault, c.luma, 4)),
     )
 }
 
 pub fn noise_estimate(numbers: [u64; 13]) -> Answer {
-    ask(case_of(numbers), true)
+    ask(case_of(numbers), Figure::Profile)
 }
 
 pub fn fit_chroma_corr(numbers: [u64; 13]) -> Answer {
-    ask(case_of(numbers), false)
+    ask(case_of(numbers), Figure::Correlation)
+}
+
+pub fn fit_ar_lag(numbers: [u64; 13]) -> Answer {
+    ask(case_of(numbers), Figure::Fit)
 }

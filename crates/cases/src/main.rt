@@ -4,6 +4,7 @@ mod case;
 mod casts;
 mod digests;
 mod draws;
+mod fits;
 mod frame_calls;
 mod gate_calls;
 mod gates;
@@ -21,6 +22,7 @@ fn main() {
     bins::run();
     least::run();
     gates::run();
+    fits::run();
     questions::run();
     replay::run();
 }

@@ -21,7 +21,9 @@ pub struct Samples {
 
 // How the samples of a pair of planes are made.
 pub struct Recipe {
-    // The kind of noise, and 16 times the kind of level.
+    // Noise: 0 small, 1 any, 2 none, 3 the extremes, 4 ones, 5 ones of either sign, 6 to 8 stripes, 9 rare ones, 10 one extreme, 11
+    // stripes but for rare places, 12 equal rows, 13 a ramp. And 16 times the level: 0 any, 1 the middle, 2 low, 3 low with less
+    // noise in the first pair.
     pub kind: u64,
     // Of 16 noises, how many are those of the first pair.
     pub share: u64,

@@ -18,6 +18,7 @@ enum Call {
     FilmGrainProbe,
     ChromaNoiseGate,
     FitChromaCorr,
+    FitArLag,
     ArPositions,
     SolveNormal,
     QuantAr,
@@ -35,6 +36,7 @@ fn answer(call: Call, n: [u64; 13]) -> Answer {
         Call::FilmGrainProbe => gate_calls::film_grain_probe(n),
         Call::ChromaNoiseGate => gate_calls::chroma_noise_gate(n),
         Call::FitChromaCorr => frame_calls::fit_chroma_corr(n),
+        Call::FitArLag => frame_calls::fit_ar_lag(n),
         Call::ArPositions => number_calls::ar_positions(n),
         Call::SolveNormal => number_calls::solve_normal(n),
         Call::QuantAr => number_calls::quant_ar(n),
@@ -124,6 +126,7 @@ fn on_frames() {
     replay(b"denoise_frame", Call::DenoiseFrame);
     replay(b"noise_estimate", Call::NoiseEstimate);
     replay(b"fit_chroma_corr", Call::FitChromaCorr);
+    replay(b"fit_ar_lag", Call::FitArLag);
 }
 
 fn on_numbers() {
