@@ -2,11 +2,13 @@
 use crate::casts::low8;
 use crate::casts::low32;
 use crate::casts::size;
+use crate::planes::ROOM;
 use crate::planes::Recipe;
 use crate::planes::fill;
 use crate::planes::raise;
 use crate::planes::top_of;
 use frame::Shape;
+ghost use Prim.Native.Nat.{_≤_};
 
 pub struct Case {
     pub kind: u64,
@@ -29,13 +31,6 @@ pub struct Case {
 pub struct Answer {
     pub refusal: u32,
     pub value: u64,
-}
-
-pub fn nothing() -> Answer {
-    Answer {
-        refusal: 0,
-        value: 0,
-    }
 }
 
 pub fn case_of(n: [u64; 13]) -> Case {
@@ -64,16 +59,19 @@ pub fn shape_of(c: Case) -> Shape {
 }
 
 // How many samples of a plane are lent.
-pub fn lent(fault: u64, samples: usize, plane: u64) -> usize {
+pub fn lent(fault: u64, samples: usize, plane: u64) -> usize
+    ensures { λ r. ⌜ r ≤ 8256 ⌝ }
+{
+    if ROOM <= samples {
+        return ROOM;
+    }
     if fault == 8 + plane % 8 {
         if 0 < samples {
             return samples - 1;
         }
     }
     if fault == 16 + plane % 8 {
-        if samples < 8256 {
-            return samples + 1;
-        }
+        return samples + 1;
     }
     samples
 }
@@ -83,7 +81,7 @@ fn high_place(fault: u64, samples: usize, plane: u64) -> usize {
     if fault == 24 + plane % 8 {
         return samples / 2;
     }
-    8256
+    ROOM
 }
 
 // The columns of a chroma plane.

@@ -1,6 +1,6 @@
 // "Width 2 at lag 1: no fit. Lag 4: 7."
+use crate::casts::wide;
 use crate::casts::yes;
-use crate::say::number;
 use crate::say::say;
 use frame::Shape;
 
@@ -21,5 +21,5 @@ fn fit_at(lag: usize) -> fit::Fit {
 
 pub fn run() {
     say(b"fits of width 2 at lag 1", yes(fit_at(1).found));
-    say(b"lag 4", number(fit_at(4).refusal));
+    say(b"lag 4", wide(fit_at(4).refusal));
 }

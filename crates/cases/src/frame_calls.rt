@@ -5,7 +5,6 @@ use crate::case::case_of;
 use crate::case::lent;
 use crate::case::make_chroma;
 use crate::case::make_luma;
-use crate::case::nothing;
 use crate::case::shape_of;
 use crate::casts::count;
 use crate::casts::signed;
@@ -47,11 +46,8 @@ fn denoise_cr(c: Case, y: &[u16], cb: &[u16], dy: &mut [u16], dcb: &mut [u16]) -
     let mut dcr = blank();
     make_chroma(&mut cr, &mut dcr, c, 3);
     let n = lent(c.fault, c.chroma, 6);
-    if n <= 8256 {
-        let source = front(&cr, lent(c.fault, c.chroma, 3));
-        return denoise_into(c, y, cb, source, dy, dcb, &mut dcr[0..n]);
-    }
-    nothing()
+    let source = front(&cr, lent(c.fault, c.chroma, 3));
+    denoise_into(c, y, cb, source, dy, dcb, &mut dcr[0..n])
 }
 
 fn denoise_cb(c: Case, y: &[u16], dy: &mut [u16]) -> Answer {
@@ -59,11 +55,8 @@ fn denoise_cb(c: Case, y: &[u16], dy: &mut [u16]) -> Answer {
     let mut dcb = blank();
     make_chroma(&mut cb, &mut dcb, c, 2);
     let n = lent(c.fault, c.chroma, 5);
-    if n <= 8256 {
-        let source = front(&cb, lent(c.fault, c.chroma, 2));
-        return denoise_cr(c, y, source, dy, &mut dcb[0..n]);
-    }
-    nothing()
+    let source = front(&cb, lent(c.fault, c.chroma, 2));
+    denoise_cr(c, y, source, dy, &mut dcb[0..n])
 }
 
 // The destinations as a digest, after a refusal too.
@@ -73,11 +66,8 @@ pub fn denoise_frame(numbers: [u64; 13]) -> Answer {
     let mut dy = blank();
     make_luma(&mut y, &mut dy, c, 1);
     let n = lent(c.fault, c.luma, 4);
-    if n <= 8256 {
-        let source = front(&y, lent(c.fault, c.luma, 1));
-        return denoise_cb(c, source, &mut dy[0..n]);
-    }
-    nothing()
+    let source = front(&y, lent(c.fault, c.luma, 1));
+    denoise_cb(c, source, &mut dy[0..n])
 }
 
 fn luma_into(digest: u64, sigma16: u64, bins: &[u64; 8]) -> u64 {

@@ -1,5 +1,6 @@
 // "Luma gate, width 4, height 1, 8 bits: noise 1,1,1,1 gives no (3/4). Noise 1,1,1,−1 then 1,−1,1,1: yes."
 // "Width 10, height 1: noise 1,1,−1,−1,1,1,−1,−1,1,1, second frame with 3 signs turned: 4/10, no; with 4 turned: yes."
+use crate::casts::yes;
 use crate::say::say;
 use frame::Shape;
 
@@ -11,11 +12,7 @@ fn luma_gate(first: &[u16], second: &[u16], denoised: &[u16]) -> u64 {
         depth: 8,
         format: 0,
     };
-    if gate::film_grain_probe(s, first, denoised, second, denoised).yes {
-        1
-    } else {
-        0
-    }
+    yes(gate::film_grain_probe(s, first, denoised, second, denoised).yes)
 }
 
 pub fn run() {

@@ -1,4 +1,5 @@
 // Runs the scope's cases that are not proved about the definitions, and writes a line for each: its name and the figure that came out.
+// Then asks every call of the recorded list in data/, and writes for each kind of call how many there were and how many answered otherwise.
 mod bins;
 mod case;
 mod casts;

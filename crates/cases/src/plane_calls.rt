@@ -4,7 +4,6 @@ use crate::case::Case;
 use crate::case::case_of;
 use crate::case::lent;
 use crate::case::make_luma;
-use crate::case::nothing;
 use crate::casts::bits;
 use crate::casts::low8;
 use crate::casts::size;
@@ -27,10 +26,8 @@ pub fn denoise_plane(numbers: [u64; 13]) -> Answer {
     let mut dst = blank();
     make_luma(&mut src, &mut dst, c, 1);
     let n = lent(c.fault, c.luma, 4);
-    if n <= 8256 {
-        return denoise_into(c, front(&src, lent(c.fault, c.luma, 1)), &mut dst[0..n]);
-    }
-    nothing()
+    let source = front(&src, lent(c.fault, c.luma, 1));
+    denoise_into(c, source, &mut dst[0..n])
 }
 
 fn sigma_of(c: Case, src: &[u16], den: &[u16]) -> Answer {

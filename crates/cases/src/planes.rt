@@ -7,10 +7,12 @@ ghost use mathlib.Core.Path.{_≡_};
 ghost use lib.ListN.{length};
 
 // Room for the largest recorded plane, and a sample more.
-pub fn blank() -> [u16; 8256]
+pub const ROOM: usize = 8256;
+
+pub fn blank() -> [u16; ROOM]
     ensures { λ r. ⌜ 8256 ≡ length r ⌝ }
 {
-    [0u16; 8256]
+    [0u16; ROOM]
 }
 
 // A source sample and its denoised sample.

@@ -18,7 +18,7 @@ fn entry(kind: u64, r: u64, c: u64, draw: u32) -> f64 {
     let product = (float_of(r) + 1.0) * (float_of(c) + 1.0);
     match kind {
         1 => if r == c { 4096.0 + x } else { x },
-        2 => product + x / 1099511627776.0,
+        2 => product + x / 8589934592.0,
         3 => float_of(c % 5) + 1.0,
         4 => if rare { 1.0 / 0.0 } else { x },
         5 => if even { 0.0 } else { x },

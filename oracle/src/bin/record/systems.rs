@@ -7,7 +7,7 @@ fn entry(kind: u64, r: usize, c: usize, draw: u32) -> f64 {
     let product = (r as f64 + 1.0) * (c as f64 + 1.0);
     match kind {
         1 if r == c => 4096.0 + x,
-        2 => product + x / 1099511627776.0,
+        2 => product + x / 8589934592.0,
         3 => (c % 5) as f64 + 1.0,
         4 if rare => f64::INFINITY,
         5 if r % 2 == c % 2 => 0.0,
