@@ -33,7 +33,7 @@ pub struct Answer {
     pub value: u64,
 }
 
-pub fn case_of(n: [u64; 13]) -> Case {
+pub fn case_of(n: &[u64; 13]) -> Case {
     Case {
         kind: n[2],
         share: n[3],

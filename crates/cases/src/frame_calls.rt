@@ -60,7 +60,7 @@ fn denoise_cb(c: Case, y: &[u16], dy: &mut [u16]) -> Answer {
 }
 
 // The destinations as a digest, after a refusal too.
-pub fn denoise_frame(numbers: [u64; 13]) -> Answer {
+pub fn denoise_frame(numbers: &[u64; 13]) -> Answer {
     let c = case_of(numbers);
     let mut y = blank();
     let mut dy = blank();
@@ -191,14 +191,14 @@ fn ask(c: Case, figure: Figure) -> Answer {
     )
 }
 
-pub fn noise_estimate(numbers: [u64; 13]) -> Answer {
+pub fn noise_estimate(numbers: &[u64; 13]) -> Answer {
     ask(case_of(numbers), Figure::Profile)
 }
 
-pub fn fit_chroma_corr(numbers: [u64; 13]) -> Answer {
+pub fn fit_chroma_corr(numbers: &[u64; 13]) -> Answer {
     ask(case_of(numbers), Figure::Correlation)
 }
 
-pub fn fit_ar_lag(numbers: [u64; 13]) -> Answer {
+pub fn fit_ar_lag(numbers: &[u64; 13]) -> Answer {
     ask(case_of(numbers), Figure::Fit)
 }

@@ -18,7 +18,7 @@ fn luma_of(c: Case, y0: &[u16], d0: &[u16], y1: &[u16], d1: &[u16]) -> Answer {
     }
 }
 
-pub fn film_grain_probe(numbers: [u64; 13]) -> Answer {
+pub fn film_grain_probe(numbers: &[u64; 13]) -> Answer {
     let c = case_of(numbers);
     let mut y0 = blank();
     let mut d0 = blank();
@@ -43,7 +43,7 @@ fn chroma_of(c: Case, c0: &[u16], d0: &[u16], c1: &[u16], d1: &[u16]) -> Answer 
     }
 }
 
-pub fn chroma_noise_gate(numbers: [u64; 13]) -> Answer {
+pub fn chroma_noise_gate(numbers: &[u64; 13]) -> Answer {
     let c = case_of(numbers);
     let mut c0 = blank();
     let mut d0 = blank();

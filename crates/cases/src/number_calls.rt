@@ -18,7 +18,7 @@ use random::Draw;
 use random::RandomRegister;
 
 // Whether there is a solution, its order and its values as a digest.
-pub fn solve_normal(numbers: [u64; 13]) -> Answer {
+pub fn solve_normal(numbers: &[u64; 13]) -> Answer {
     let a = matrix(numbers[2], low32(numbers[4]));
     let b = row(0, 25, low32(numbers[4]));
     let s = solve::solve_normal(a, b, size(numbers[3]));
@@ -36,7 +36,7 @@ fn offsets_into(digest: u64, offsets: &[i32; 24]) -> u64 {
 }
 
 // The count, the rows and the columns as a digest.
-pub fn ar_positions(numbers: [u64; 13]) -> Answer {
+pub fn ar_positions(numbers: &[u64; 13]) -> Answer {
     let p = positions::ar_positions(size(numbers[2]));
     let rows = p.rows;
     let columns = p.columns;
@@ -47,14 +47,14 @@ pub fn ar_positions(numbers: [u64; 13]) -> Answer {
     }
 }
 
-pub fn quant_ar(numbers: [u64; 13]) -> Answer {
+pub fn quant_ar(numbers: &[u64; 13]) -> Answer {
     Answer {
         refusal: 0,
         value: signed(float::quant_ar(float_of(numbers[2]))),
     }
 }
 
-pub fn grain_seed_for(numbers: [u64; 13]) -> Answer {
+pub fn grain_seed_for(numbers: &[u64; 13]) -> Answer {
     Answer {
         refusal: 0,
         value: wide16(random::grain_seed_for(low32(numbers[2]))),
@@ -62,7 +62,7 @@ pub fn grain_seed_for(numbers: [u64; 13]) -> Answer {
 }
 
 // The bits drawn, above the 16 bits of the state afterwards.
-pub fn random_register(numbers: [u64; 13]) -> Answer {
+pub fn random_register(numbers: &[u64; 13]) -> Answer {
     let s = RandomRegister::new(low16(numbers[2])).stepped(low32(numbers[3]));
     let after = s.register;
     let draw = s.draw;

@@ -20,7 +20,7 @@ fn denoise_into(c: Case, src: &[u16], dst: &mut [u16]) -> Answer {
 }
 
 // The destination as a digest, after a refusal too.
-pub fn denoise_plane(numbers: [u64; 13]) -> Answer {
+pub fn denoise_plane(numbers: &[u64; 13]) -> Answer {
     let c = case_of(numbers);
     let mut src = blank();
     let mut dst = blank();
@@ -38,7 +38,7 @@ fn sigma_of(c: Case, src: &[u16], den: &[u16]) -> Answer {
     }
 }
 
-pub fn plane_sigma16(numbers: [u64; 13]) -> Answer {
+pub fn plane_sigma16(numbers: &[u64; 13]) -> Answer {
     let c = case_of(numbers);
     let mut src = blank();
     let mut den = blank();
@@ -64,7 +64,7 @@ fn rho_of(c: Case, src: &[u16], den: &[u16]) -> Answer {
 }
 
 // The correlation as its bits.
-pub fn lag_h_rho(numbers: [u64; 13]) -> Answer {
+pub fn lag_h_rho(numbers: &[u64; 13]) -> Answer {
     let c = case_of(numbers);
     let mut src = blank();
     let mut den = blank();

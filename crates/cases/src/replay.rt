@@ -26,7 +26,7 @@ enum Call {
     RandomRegister,
 }
 
-fn answer(call: Call, n: [u64; 13]) -> Answer {
+fn answer(call: Call, n: &[u64; 13]) -> Answer {
     match call {
         Call::DenoisePlane => plane_calls::denoise_plane(n),
         Call::DenoiseFrame => frame_calls::denoise_frame(n),
@@ -52,7 +52,7 @@ fn say_answer(refusal: u64, value: u64) {
     io::print_decimal(STDOUT_FILENO, value);
 }
 
-fn say_difference(name: &[u8], line: usize, refusal: u64, value: u64, n: [u64; 13]) {
+fn say_difference(name: &[u8], line: usize, refusal: u64, value: u64, n: &[u64; 13]) {
     io::write_all(STDOUT_FILENO, name);
     io::write_all(STDOUT_FILENO, b" line ");
     io::print_decimal(STDOUT_FILENO, line as u64);
@@ -64,7 +64,7 @@ fn say_difference(name: &[u8], line: usize, refusal: u64, value: u64, n: [u64; 1
 }
 
 // 1 where a line's answer is another than the recorded one, which is then written.
-fn difference(name: &[u8], call: Call, line: usize, n: [u64; 13]) -> usize
+fn difference(name: &[u8], call: Call, line: usize, n: &[u64; 13]) -> usize
     ensures { λ r. ⌜ r ≤ 1 ⌝ }
 {
     let a = answer(call, n);
@@ -95,7 +95,7 @@ fn compare(name: &[u8], call: Call, list: &[u8]) {
         let l = line_at(list, at);
         let numbers = l.numbers;
         line += 1;
-        differences += difference(name, call, line, numbers);
+        differences += difference(name, call, line, &numbers);
         at = l.next;
     }
     say_counts(name, line, differences);
