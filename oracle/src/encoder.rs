@@ -1,0 +1,7 @@
+pub use crate::missing::key_frame;
+
+#[path = "../upstream/src/encoder/yuv_frame.rs"]
+pub mod yuv_frame;
+
+// `film_grain_elect`, as the build script copied it.
+include!(concat!(env!("OUT_DIR"), "/elect.rs"));
