@@ -193,7 +193,7 @@ typedef struct {
 typedef struct {
     uint32_t refusal;
     uint32_t value;
-    grain_random register_after;
+    grain_random after;
 } grain_stepped;
 
 /* register' = register >> 1 with bit 15 the xor of bits 0, 1, 3 and 12; value = register' >> (16 - bits) */
