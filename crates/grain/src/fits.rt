@@ -1,0 +1,19 @@
+// The quantiser and the solver.
+use solve::Solved;
+ghost use mathlib.Core.Path.{_≡_};
+ghost use Rattle.float.specs.Steps.{quantAr};
+ghost use Rattle.solve.specs.Answer.{solvedOf};
+
+#[no_mangle]
+pub extern "C" fn grain_quant_ar(x: f64) -> i32
+    ensures { λ r. ⌜ r ≡ quantAr x ⌝ }
+{
+    float::quant_ar(x)
+}
+
+#[no_mangle]
+pub extern "C" fn grain_solve_normal(a: &[[f64; 25]; 25], b: &[f64; 25], order: usize) -> Solved
+    ensures { λ r. ⌜ r ≡ solvedOf (now (a .entry)) (now (b .entry)) order ⌝ }
+{
+    solve::solve_normal(*a, *b, order)
+}
