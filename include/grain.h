@@ -94,7 +94,8 @@ typedef struct {
     double value;
 } grain_rho;
 
-/* sum of n(r, c) * n(r, c + lag) / sum of n(r, c)^2; 0.0 where there is nothing to divide, so at lag 0 */
+/* sum of n(r, c) * n(r, c + lag) / sum of n(r, c)^2, from -1 to 1; 0.0 if lag is 0, width is at most lag, height is 0 or
+ * the divisor is 0 */
 grain_rho grain_lag_h_rho(const uint16_t *src, size_t src_len, const uint16_t *den, size_t den_len,
                           size_t width, size_t height, size_t lag, uint8_t depth);
 
@@ -137,7 +138,7 @@ typedef struct {
     double values[25];
 } grain_solution;
 
-/* Not found: no solution, a pivot's magnitude being below 1e-9. */
+/* Not found: no solution, since a pivot's magnitude is below 1e-9; a NaN passes. */
 typedef struct {
     uint32_t refusal;
     bool found;
@@ -158,7 +159,8 @@ typedef struct {
 /* Rows -lag to 0, columns -lag to lag, ending before the sample: 2 * lag * (lag + 1) neighbours */
 grain_positions grain_ar_positions(size_t lag);
 
-/* `count` coefficients of luma; as many of Cb and of Cr, then the luma tap. Not found: no fit. */
+/* `count` coefficients of luma; as many of Cb and of Cr, then the luma tap; the rest are 0. Not found: lag 0, a plane too
+ * small (width <= 2 * lag or height <= lag), no noise, no solution, or all coefficients of luma 0. */
 typedef struct {
     uint32_t refusal;
     bool found;
@@ -168,7 +170,8 @@ typedef struct {
     int32_t cr[25];
 } grain_fit;
 
-/* The coefficients of least squares of a sample's noise on its neighbours' (and on luma's average), quantised */
+/* quant_ar of the least squares of a sample's noise by its neighbours' noises, and for chroma by luma's average as well;
+ * chroma is 0 in monochrome, in too small a plane and without a solution */
 grain_fit grain_fit_ar_lag(grain_shape s, const uint16_t *y, size_t y_len, const uint16_t *cb, size_t cb_len,
                            const uint16_t *cr, size_t cr_len, const uint16_t *dy, size_t dy_len,
                            const uint16_t *dcb, size_t dcb_len, const uint16_t *dcr, size_t dcr_len, size_t lag);
@@ -196,7 +199,7 @@ typedef struct {
     grain_random after;
 } grain_stepped;
 
-/* register' = register >> 1 with bit 15 the xor of bits 0, 1, 3 and 12; value = register' >> (16 - bits) */
+/* after = r >> 1 with the xor of r's bits 0, 1, 3 and 12 at bit 15, value = after >> (16 - bits); refused, after = r */
 grain_stepped grain_random_step(grain_random r, uint32_t bits);
 
 /* The same with the register's state stepped in place */

@@ -1,5 +1,5 @@
-/* Calls everything that include/grain.h declares, on the worked cases of the scope and on refusals. Each comparison that
- * fails is written with its line; the last line is 'calls.c: N compared, M differ', and the status says whether M is 0. */
+/* Makes every call that include/grain.h declares, on the worked cases of the scope and on refusals. A comparison that
+ * fails is written with its line; the last line is 'calls.c: N compared, M differ', and the status is 0 if M is. */
 #include "grain.h"
 
 #include <math.h>
@@ -269,15 +269,14 @@ static void noise_estimate(void)
     SAME(bin1(100, 65, 65), 16);
     SAME(bin1(100, 65, 64), 2);
 
+    SAME(grain_noise_estimate(shape(2, 4097, 8, 3), FRAME).refusal, 1);
+    SAME(grain_noise_estimate(shape(2, 0, 8, 3), FRAME).refusal, 2);
+    SAME(grain_noise_estimate(shape(2, 2, 0, 3), FRAME).refusal, 3);
+    SAME(grain_noise_estimate(shape(2, 2, 8, 4), FRAME).refusal, 4);
+    SAME(grain_noise_estimate(shape(2, 2, 8, 1), FRAME).refusal, 5);
     dcr[0] = 256;
-    uint32_t numbers[6] = {
-        grain_noise_estimate(shape(2, 4097, 8, 3), FRAME).refusal, grain_noise_estimate(shape(2, 0, 8, 3), FRAME).refusal,
-        grain_noise_estimate(shape(2, 2, 0, 3), FRAME).refusal,    grain_noise_estimate(shape(2, 2, 8, 4), FRAME).refusal,
-        grain_noise_estimate(shape(2, 2, 8, 1), FRAME).refusal,    0,
-    };
     a = grain_noise_estimate(shape(2, 2, 8, 3), FRAME);
-    numbers[5] = a.refusal;
-    SAME_ALL(numbers, 1, 2, 3, 4, 5, 6);
+    SAME(a.refusal, 6);
     ZERO(a.luma);
     ZERO(a.cb);
     ZERO(a.cr);
