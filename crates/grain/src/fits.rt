@@ -1,8 +1,10 @@
-// The quantiser and the solver.
+// The quantiser, the solver, and the neighbours of a fit.
+use positions::Positions;
 use solve::Solved;
 ghost use mathlib.Core.Path.{_≡_};
 ghost use Rattle.float.specs.Steps.{quantAr};
 ghost use Rattle.solve.specs.Answer.{solvedOf};
+ghost use Rattle.positions.specs.Positions.{positionsOf};
 
 #[no_mangle]
 pub extern "C" fn grain_quant_ar(x: f64) -> i32
@@ -16,4 +18,11 @@ pub extern "C" fn grain_solve_normal(a: &[[f64; 25]; 25], b: &[f64; 25], order: 
     ensures { λ r. ⌜ r ≡ solvedOf (now (a .entry)) (now (b .entry)) order ⌝ }
 {
     solve::solve_normal(*a, *b, order)
+}
+
+#[no_mangle]
+pub extern "C" fn grain_ar_positions(lag: usize) -> Positions
+    ensures { λ r. ⌜ r ≡ positionsOf lag ⌝ }
+{
+    positions::ar_positions(lag)
 }

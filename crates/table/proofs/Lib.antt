@@ -8,3 +8,4 @@ pub mod Averages
 pub mod Gates
 pub mod Random
 pub mod Questions
+pub mod Positions
