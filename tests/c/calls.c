@@ -486,8 +486,8 @@ static void ar_positions(void)
     ZERO(p.columns);
 }
 
-/* Noise that follows its neighbours exactly, so that least squares has one answer: luma is its neighbour at (-1,-1),
- * Cb at (-1,1), and Cr is the luma noise less its neighbour at (0,-1). Coefficients are 64ths. */
+/* Noise that follows its neighbours exactly, so that least squares has one answer: luma is its neighbour at (-1,-1), Cb
+ * its neighbour at (-1,1) less luma, and Cr luma less its neighbour at (0,-1). Coefficients are 64ths. */
 static void fit_ar_lag(void)
 {
     enum { W = 10, H = 8 };
@@ -497,7 +497,7 @@ static void fit_ar_lag(void)
         for (int c = 0; c < W; c++) {
             int i = r * W + c;
             n[0][i] = free_noise[c - r + H];
-            n[1][i] = free_noise[r + c];
+            n[1][i] = r == 0 || c == 0 || c == W - 1 ? free_noise[r + c] : n[1][i - W + 1] - n[0][i];
             n[2][i] = c == 0 ? free_noise[2 * r] : n[0][i] - n[2][i - 1];
         }
     uint16_t y[H * W], cb[H * W], cr[H * W], dy[H * W], dcb[H * W], dcr[H * W];
@@ -510,7 +510,7 @@ static void fit_ar_lag(void)
     SAME(a.found, true);
     SAME(a.count, 4);
     SAME_ALL(a.luma, 64, 0, 0, 0, 0, 0, 0, 0, 0, 0, 0, 0, 0, 0, 0, 0, 0, 0, 0, 0, 0, 0, 0, 0);
-    SAME_ALL(a.cb, 0, 0, 64, 0, 0, 0, 0, 0, 0, 0, 0, 0, 0, 0, 0, 0, 0, 0, 0, 0, 0, 0, 0, 0, 0);
+    SAME_ALL(a.cb, 0, 0, 64, 0, -64, 0, 0, 0, 0, 0, 0, 0, 0, 0, 0, 0, 0, 0, 0, 0, 0, 0, 0, 0, 0);
     SAME_ALL(a.cr, 0, 0, 0, -64, 64, 0, 0, 0, 0, 0, 0, 0, 0, 0, 0, 0, 0, 0, 0, 0, 0, 0, 0, 0, 0);
 
     a = grain_fit_ar_lag(shape(2, 2, 10, 0), y, 4, NONE, NONE, dy, 4, NONE, NONE, 1);
