@@ -2,7 +2,7 @@
  *
  * A plane is lent as a pointer and its number of samples: u16, in row order, place (r, c) of a plane w wide at
  * r * w + c. The pointer is aligned for its type and not null, also where there are 0 samples, and a plane that is
- * written overlaps no other plane of the call. No pointer is kept, and no memory is taken but the stack.
+ * written overlaps no other plane of the call. No pointer is kept; a call takes less than 128 KiB of stack and no heap.
  * Noise n is source less denoised. Halves are rounded away from zero.
  *
  * Every call may be made with any numbers. A call that can refuse returns 0 in `refusal` (or as its result), or the
