@@ -9,3 +9,4 @@ pub mod Gates
 pub mod Random
 pub mod Questions
 pub mod Positions
+pub mod Fit
