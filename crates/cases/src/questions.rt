@@ -2,7 +2,6 @@
 use crate::say::number;
 use crate::say::say;
 use random::Draw;
-use random::RandomRegister;
 
 // What the row correlation of one sample refuses with; 1000 where it does not.
 fn sample_number(sample: u16) -> u64 {
@@ -21,7 +20,7 @@ fn width_number(width: usize) -> u64 {
 }
 
 fn bits_number(bits: u32) -> u64 {
-    let s = RandomRegister::new(1).stepped(bits);
+    let s = random::draw_from(1, bits);
     let draw = s.draw;
     match draw {
         Draw::Refused(n) => number(n),
