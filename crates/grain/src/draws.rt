@@ -69,8 +69,7 @@ pub extern "C" fn grain_random_step(register: RandomRegister, bits: u32) -> Step
 pub extern "C" fn grain_random_next(state: &mut u16, bits: u32) -> DrawRecord
     ensures { λ r. ⌜ (r, now (state .exit)) ≡ ofNext (step (record { state = now (state .entry) }) bits) ⌝ }
 {
-    let register = RandomRegister { state: *state };
-    let s = register.stepped(bits);
+    let s = random::draw_from(*state, bits);
     let after = s.register;
     *state = after.state;
     let draw = s.draw;

@@ -2,5 +2,5 @@
 mod planes; // denoise and sigma16 of a plane
 mod frames; // denoise, profile and chroma correlation of a frame
 mod gates; // row correlation and gates
-mod fits; // quantiser, solver and neighbours of a fit
+mod fits; // quantiser, solver and fit
 mod draws; // seed and random register
