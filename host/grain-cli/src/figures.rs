@@ -47,15 +47,15 @@ pub struct FrameFigures {
     /// Against the next frame; the last has none.
     pub gates: Option<Planes<Gate>>,
     /// At lags 1, 2 and 3; `None` is "no fit".
-    pub fits: Vec<Option<Fit>>,
+    pub fits: Vec<Option<Fit<i32>>>,
     /// How far chroma's noise follows luma's, in 64ths, where no neighbour has a tap.
-    pub chroma_taps: Option<ChromaTaps>,
+    pub chroma_taps: Option<ChromaTaps<i32>>,
 }
 
 #[derive(Debug, Clone, Copy, Serialize)]
-pub struct ChromaTaps {
-    pub cb: i32,
-    pub cr: i32,
+pub struct ChromaTaps<T> {
+    pub cb: T,
+    pub cr: T,
 }
 
 /// Noise by intensity. Sigma is the root mean square in 8-bit steps.
@@ -166,22 +166,35 @@ impl Gate {
     }
 }
 
-/// Auto-regressive coefficients in 64ths, in the order of the neighbours; chroma has a luma tap besides.
+/// Auto-regressive coefficients in 64ths, in the order of the neighbours; chroma has a luma tap besides. Of a frame they
+/// are whole numbers, of a clip their spread.
 #[derive(Debug, Clone, Serialize)]
-pub struct Fit {
+pub struct Fit<T> {
     pub lag: u8,
-    pub y: Vec<i32>,
-    pub cb: Option<ChromaFit>,
-    pub cr: Option<ChromaFit>,
+    pub y: Vec<T>,
+    pub cb: Option<ChromaFit<T>>,
+    pub cr: Option<ChromaFit<T>>,
 }
 
 #[derive(Debug, Clone, Serialize)]
-pub struct ChromaFit {
-    pub coefficients: Vec<i32>,
-    pub luma_tap: i32,
+pub struct ChromaFit<T> {
+    pub coefficients: Vec<T>,
+    pub luma_tap: T,
 }
 
-impl Fit {
+impl<T> Fit<T> {
+    /// A plane's coefficients and luma tap.
+    pub fn plane(&self, name: &str) -> Option<(&[T], Option<&T>)> {
+        let chroma = match name {
+            "Y" => return Some((&self.y, None)),
+            "Cb" => self.cb.as_ref()?,
+            _ => self.cr.as_ref()?,
+        };
+        Some((&chroma.coefficients, Some(&chroma.luma_tap)))
+    }
+}
+
+impl Fit<i32> {
     fn new(found: ArFit, colour: bool) -> Self {
         let chroma = |mut coefficients: Vec<i32>| {
             let luma_tap = coefficients.pop()?;

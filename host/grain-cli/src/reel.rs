@@ -150,8 +150,9 @@ impl Reel {
                 || tasks.par_iter().map(&work).collect::<Result<Vec<T>>>(),
             );
             results?.into_iter().try_for_each(&mut done)?;
+            let finished = tasks.last().map_or(0, |task| task.first.index + 1);
+            progress.reach(finished as u64);
             tasks = next?;
-            progress.reach(self.at as u64);
         }
         if self.at == 0 {
             bail!("{}: there is no frame after the header", self.clip.name);

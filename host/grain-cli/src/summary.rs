@@ -1,7 +1,7 @@
 //! The figures of a clip: its frames' figures taken together. Field names are those of the JSON report.
 
 use crate::clip::format_name;
-use crate::figures::{ChromaFit, Fit, FrameFigures, Gate, Planes, Profile};
+use crate::figures::{ChromaFit, ChromaTaps, Fit, FrameFigures, Gate, Planes, Profile};
 use crate::reel::Reel;
 use serde::Serialize;
 
@@ -22,8 +22,8 @@ pub struct ClipFigures {
     /// Of all reported pairs; a clip of one frame has none.
     pub gates: Option<Planes<GateCount>>,
     /// At lags 1, 2 and 3; `None` where no frame has a fit.
-    pub fits: Vec<Option<FitSpread>>,
-    pub chroma_taps: Option<TapSpread>,
+    pub fits: Vec<Option<ClipFit>>,
+    pub chroma_taps: Option<ChromaTaps<Spread>>,
 }
 
 #[derive(Debug, Clone, Serialize)]
@@ -48,25 +48,11 @@ pub struct Spread {
 }
 
 #[derive(Debug, Clone, Serialize)]
-pub struct FitSpread {
-    pub lag: u8,
+pub struct ClipFit {
     /// Frames that have a fit at this lag.
     pub fitted: usize,
-    pub y: Vec<Spread>,
-    pub cb: Option<ChromaSpread>,
-    pub cr: Option<ChromaSpread>,
-}
-
-#[derive(Debug, Clone, Serialize)]
-pub struct ChromaSpread {
-    pub coefficients: Vec<Spread>,
-    pub luma_tap: Spread,
-}
-
-#[derive(Debug, Clone, Copy, Serialize)]
-pub struct TapSpread {
-    pub cb: Spread,
-    pub cr: Spread,
+    #[serde(flatten)]
+    pub fit: Fit<Spread>,
 }
 
 impl Spread {
@@ -144,33 +130,34 @@ fn counted(pairs: Vec<&Gate>) -> GateCount {
 }
 
 /// The spread of each coefficient over the frames that have a fit.
-fn fits(frames: &[FrameFigures], at: usize) -> Option<FitSpread> {
+fn fits(frames: &[FrameFigures], at: usize) -> Option<ClipFit> {
     let found: Vec<_> = frames.iter().filter_map(|f| f.fits[at].as_ref()).collect();
     let each = |lists: Vec<&Vec<i32>>| -> Vec<Spread> {
         let one = |i: usize| Spread::of(lists.iter().map(|list| list[i].into()));
-        (0..lists.first().map_or(0, |list| list.len()))
-            .filter_map(one)
-            .collect()
+        let count = lists.first().map_or(0, |list| list.len());
+        (0..count).filter_map(one).collect()
     };
-    let chroma = |plane: fn(&Fit) -> Option<&ChromaFit>| {
+    let chroma = |plane: fn(&Fit<i32>) -> Option<&ChromaFit<i32>>| {
         let found: Vec<_> = found.iter().filter_map(|fit| plane(fit)).collect();
-        Some(ChromaSpread {
+        Some(ChromaFit {
             luma_tap: Spread::of(found.iter().map(|fit| fit.luma_tap.into()))?,
             coefficients: each(found.iter().map(|fit| &fit.coefficients).collect()),
         })
     };
-    Some(FitSpread {
-        lag: found.first()?.lag,
+    Some(ClipFit {
         fitted: found.len(),
-        y: each(found.iter().map(|fit| &fit.y).collect()),
-        cb: chroma(|fit| fit.cb.as_ref()),
-        cr: chroma(|fit| fit.cr.as_ref()),
+        fit: Fit {
+            lag: found.first()?.lag,
+            y: each(found.iter().map(|fit| &fit.y).collect()),
+            cb: chroma(|fit| fit.cb.as_ref()),
+            cr: chroma(|fit| fit.cr.as_ref()),
+        },
     })
 }
 
-fn taps(frames: &[FrameFigures]) -> Option<TapSpread> {
+fn taps(frames: &[FrameFigures]) -> Option<ChromaTaps<Spread>> {
     let found = || frames.iter().filter_map(|f| f.chroma_taps);
-    Some(TapSpread {
+    Some(ChromaTaps {
         cb: Spread::of(found().map(|taps| taps.cb.into()))?,
         cr: Spread::of(found().map(|taps| taps.cr.into()))?,
     })

@@ -1,27 +1,28 @@
 //! The report as a person reads it, at most 80 columns wide while coefficients have three digits.
 
 use crate::figures::{
-    FRAME_LIMIT, Fit, FrameFigures, Gate, LEAST_SIGMA, Planes, Profile, ROW_LIMIT,
+    ChromaTaps, FRAME_LIMIT, Fit, FrameFigures, Gate, LEAST_SIGMA, Planes, Profile, ROW_LIMIT,
 };
-use crate::summary::{ChromaSpread, ClipFigures, FitSpread, GateCount, Spread};
+use crate::summary::{ClipFigures, GateCount, Spread};
 use console::style;
 use std::fmt::Write;
 
 /// The frames first and the clip last, where a terminal shows it.
 pub fn text(clip: &ClipFigures, frames: &[FrameFigures]) -> String {
     let mut out = String::new();
+    let planes = if clip.profile.cb.is_some() {
+        &["Y", "Cb", "Cr"][..]
+    } else {
+        &["Y"]
+    };
     for figures in frames {
         let head = format!("Frame {}, seed {}", figures.frame, figures.seed);
         line(&mut out, style(head).bold());
         profile(&mut out, &figures.profile);
         gates(&mut out, figures);
-        fits(&mut out, &frame_fits(&figures.fits));
-        if let Some(taps) = figures.chroma_taps {
-            line(
-                &mut out,
-                format!("  taps without neighbours: Cb {}, Cr {}", taps.cb, taps.cr),
-            );
-        }
+        let lags = [0, 1, 2].map(|at| figures.fits[at].as_ref());
+        fits(&mut out, lags, planes, i32::to_string);
+        taps(&mut out, &figures.chroma_taps, i32::to_string);
         out.push('\n');
     }
     line(&mut out, style(clip_head(clip)).bold());
@@ -32,14 +33,9 @@ pub fn text(clip: &ClipFigures, frames: &[FrameFigures]) -> String {
     line(&mut out, format!("  denoised copy: {denoised}"));
     profile(&mut out, &clip.profile);
     clip_gates(&mut out, clip.gates.as_ref());
-    fits(&mut out, &clip_fits(&clip.fits));
-    if let Some(taps) = clip.chroma_taps {
-        let (cb, cr) = (spread(taps.cb, 0), spread(taps.cr, 0));
-        line(
-            &mut out,
-            format!("  taps without neighbours: Cb {cb}, Cr {cr}"),
-        );
-    }
+    let lags = [0, 1, 2].map(|at| clip.fits[at].as_ref().map(|of| &of.fit));
+    fits(&mut out, lags, planes, mean);
+    taps(&mut out, &clip.chroma_taps, mean);
     out
 }
 
@@ -178,12 +174,19 @@ fn clip_gates(out: &mut String, gates: Option<&Planes<GateCount>>) {
     }
 }
 
-/// A mean with its least and most, as "0.31 (0.30 to 0.33)".
-fn spread(of: Spread, digits: usize) -> String {
-    let Spread { mean, least, most } = of;
-    match most > least {
-        true => format!("{mean:.digits$} ({least:.digits$} to {most:.digits$})"),
-        false => format!("{mean:.digits$}"),
+/// The mean to the nearest whole number, without a sign at 0.
+fn mean(of: &Spread) -> String {
+    (of.mean.round() as i32).to_string()
+}
+
+fn taps<T>(out: &mut String, taps: &Option<ChromaTaps<T>>, word: fn(&T) -> String) {
+    if let Some(ChromaTaps { cb, cr }) = taps {
+        let words = format!(
+            "  taps without neighbours: Cb {}, Cr {}",
+            word(cb),
+            word(cr)
+        );
+        line(out, words);
     }
 }
 
@@ -193,102 +196,48 @@ struct Shown {
     luma_tap: Option<String>,
 }
 
-/// A plane's name and what is shown at each lag.
-type Row = (&'static str, Vec<Option<Shown>>);
-
-fn frame_fits(fits: &[Option<Fit>]) -> Vec<Row> {
-    let words = |list: &[i32]| list.iter().map(i32::to_string).collect();
-    rows(fits, |fit, plane| {
-        let (coefficients, luma_tap) = match plane {
-            "Y" => (words(&fit.y), None),
-            _ => {
-                let chroma = if plane == "Cb" { &fit.cb } else { &fit.cr };
-                let chroma = chroma.as_ref()?;
-                (
-                    words(&chroma.coefficients),
-                    Some(chroma.luma_tap.to_string()),
-                )
-            }
-        };
+impl Shown {
+    fn new<T>(fit: Option<&Fit<T>>, plane: &str, word: fn(&T) -> String) -> Option<Self> {
+        let (coefficients, luma_tap) = fit?.plane(plane)?;
         Some(Shown {
-            coefficients,
-            luma_tap,
+            coefficients: coefficients.iter().map(word).collect(),
+            luma_tap: luma_tap.map(word),
         })
-    })
-}
-
-fn clip_fits(fits: &[Option<FitSpread>]) -> Vec<Row> {
-    let words = |list: &[Spread]| list.iter().map(mean).collect();
-    rows(fits, |fit, plane| {
-        let (coefficients, luma_tap) = match plane {
-            "Y" => (words(&fit.y), None),
-            _ => {
-                let chroma: &Option<ChromaSpread> = if plane == "Cb" { &fit.cb } else { &fit.cr };
-                let chroma = chroma.as_ref()?;
-                (words(&chroma.coefficients), Some(mean(&chroma.luma_tap)))
-            }
-        };
-        Some(Shown {
-            coefficients,
-            luma_tap,
-        })
-    })
-}
-
-/// A mean to the nearest whole number, without a sign at 0.
-fn mean(of: &Spread) -> String {
-    format!("{}", of.mean.round() as i32)
-}
-
-fn rows<F>(fits: &[Option<F>], shown: impl Fn(&F, &str) -> Option<Shown>) -> Vec<Row> {
-    let plane = |name| {
-        (
-            name,
-            fits.iter().map(|fit| shown(fit.as_ref()?, name)).collect(),
-        )
-    };
-    let planes = ["Y", "Cb", "Cr"].map(plane);
-    let there = |row: &Row| row.0 == "Y" || row.1.iter().any(Option::is_some);
-    planes.into_iter().filter(there).collect()
+    }
 }
 
 /// The lags side by side, each coefficient where its neighbour lies before the sample itself, and a chroma plane's luma
 /// tap below that.
-fn fits(out: &mut String, rows: &[Row]) {
-    let shown = || rows.iter().flat_map(|row| row.1.iter().flatten());
-    let words = shown().flat_map(|fit| fit.coefficients.iter().chain(&fit.luma_tap));
+fn fits<T>(out: &mut String, fits: [Option<&Fit<T>>; 3], planes: &[&str], word: fn(&T) -> String) {
+    let shown = |plane: &str| fits.map(|fit| Shown::new(fit, plane, word));
+    let planes: Vec<_> = planes.iter().map(|plane| (*plane, shown(plane))).collect();
+    let words = planes.iter().flat_map(|(_, fits)| fits.iter().flatten());
+    let words = words.flat_map(|fit| fit.coefficients.iter().chain(&fit.luma_tap));
     let cell = 1 + words.map(|word| word.len()).max().unwrap_or(0).max(3);
     let lags = |of: &dyn Fn(usize) -> Vec<String>| -> String {
         let block = |lag| {
-            of(lag)
+            let words: String = of(lag)
                 .iter()
                 .map(|word| format!("{word:>cell$}"))
-                .collect::<String>()
+                .collect();
+            format!("{words:<w$}", w = (2 * lag + 1) * cell + 2)
         };
-        (1..=3)
-            .map(|lag| format!("{:<w$}", block(lag), w = (2 * lag + 1) * cell + 2))
-            .collect()
+        (1..=3).map(block).collect()
     };
+    // The sample's own column.
+    let own = |lag: usize, word: String| [vec![String::new(); lag], vec![word]].concat();
     let mut row = |head: &str, cells: String| line(out, format!("  {head:<4}{cells}").trim_end());
     row("fits, in 64ths; · is the sample itself", String::new());
-    row(
-        "",
-        lags(&|lag| [vec![String::new(); lag], vec![format!("lag {lag}")]].concat()),
-    );
-    for (name, fits) in rows {
+    row("", lags(&|lag| own(lag, format!("lag {lag}"))));
+    for (plane, fits) in planes {
+        let fit = |lag: usize| fits[lag - 1].as_ref();
         for up in (0..=3).rev() {
-            let head = if up == 0 { name } else { "" };
-            row(
-                head,
-                lags(&|lag| neighbours(fits[lag - 1].as_ref(), lag, up)),
-            );
+            let head = if up == 0 { plane } else { "" };
+            row(head, lags(&|lag| neighbours(fit(lag), lag, up)));
         }
-        if *name != "Y" {
-            let tap = |lag: usize| fits[lag - 1].as_ref()?.luma_tap.clone();
-            row(
-                "luma",
-                lags(&|lag| [vec![String::new(); lag], Vec::from_iter(tap(lag))].concat()),
-            );
+        if plane != "Y" {
+            let tap = |lag| fit(lag).and_then(|fit| fit.luma_tap.clone());
+            row("luma", lags(&|lag| own(lag, tap(lag).unwrap_or_default())));
         }
     }
 }
