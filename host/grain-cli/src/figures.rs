@@ -150,11 +150,11 @@ impl Gate {
         let failed = if sigma < least_sigma {
             "sigma is too low"
         } else if row.abs() >= ROW_LIMIT {
-            "the noise is too alike along a row"
+            "the correlation along a row is too strong"
         } else if between.is_none() {
             "a frame has no noise"
         } else {
-            "the noise is too alike from frame to frame"
+            "the correlation from frame to frame is too strong"
         };
         Ok(Gate {
             grain,

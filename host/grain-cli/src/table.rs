@@ -82,9 +82,18 @@ fn profile(out: &mut String, planes: &Planes<Profile>) {
                 (_, false) => format!("({:.2})", bin.sigma),
             }
         });
-        row("", plane.samples().to_string(), &|at| {
-            plane.bins[at].count.to_string()
+        row("", count(plane.samples()), &|at| {
+            count(plane.bins[at].count)
         });
+    }
+}
+
+/// A count in at most seven places.
+fn count(n: u64) -> String {
+    match n {
+        0..10_000_000 => n.to_string(),
+        10_000_000..10_000_000_000 => format!("{:.1}M", n as f64 / 1e6),
+        _ => format!("{:.1}G", n as f64 / 1e9),
     }
 }
 

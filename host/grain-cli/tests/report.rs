@@ -238,10 +238,10 @@ fn a_gate_that_says_no_says_why() {
     let table = written(&folder, &["report", "clip.y4m", "--denoised", "copy.y4m"]);
     let table = String::from_utf8(table).unwrap();
     let reasons = [
-        "the noise is too alike from frame to frame",
+        "the correlation from frame to frame is too strong",
         "a frame has no noise",
         "sigma is too low",
-        "the noise is too alike along a row",
+        "the correlation along a row is too strong",
     ];
     for (frame, reason) in reasons.into_iter().enumerate() {
         for plane in ["y", "cb", "cr"] {
