@@ -132,21 +132,21 @@ fn gates(out: &mut String, figures: &FrameFigures) {
         &format!("gates, frame {} to {}", figures.frame, figures.frame + 1),
     );
     for (name, gate) in gates.named() {
-        let Gate {
-            sigma,
-            row_correlation: row,
-            ..
-        } = gate;
-        let between = gate
-            .frame_correlation
-            .map_or("–".to_string(), |rho| format!("{rho:.3}"));
+        let Gate { sigma, .. } = gate;
+        let row = correlation(gate.row_correlation);
+        let between = gate.frame_correlation.map_or("–".to_string(), correlation);
         let answer = answer(gate.grain, 26);
         line(
             out,
-            format!("  {name:<4}{answer}{sigma:>12.2}{row:>14.3}{between:>18}"),
+            format!("  {name:<4}{answer}{sigma:>12.2}{row:>14}{between:>18}"),
         );
         why(out, gate.why);
     }
+}
+
+/// Three places, without a sign at 0.
+fn correlation(rho: f64) -> String {
+    format!("{:.3}", (rho * 1000.0).round() / 1000.0 + 0.0)
 }
 
 fn why(out: &mut String, why: Option<&str>) {
@@ -172,8 +172,10 @@ fn clip_gates(out: &mut String, gates: Option<&Planes<GateCount>>) {
         let passed = format!("{} of {}", gate.passed, gate.pairs);
         let [row, frame] = [gate.row_correlation, gate.frame_correlation].map(|of| match of {
             None => "–".to_string(),
-            Some(Spread { least, most, .. }) if least == most => format!("{most:.3}"),
-            Some(Spread { least, most, .. }) => format!("{least:.3} to {most:.3}"),
+            Some(Spread { least, most, .. }) if least == most => correlation(most),
+            Some(Spread { least, most, .. }) => {
+                format!("{} to {}", correlation(least), correlation(most))
+            }
         });
         line(
             out,
