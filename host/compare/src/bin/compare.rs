@@ -13,7 +13,7 @@ use std::thread;
 const USAGE: &str = "\
 compare [--calls N] [--seed S] [--fits] [--case CASE]
 
-  --calls N    compare N drawn cases (60000) and the largest planes
+  --calls N    compare N drawn cases (150000) and the largest planes
   --seed S     draw the cases of another seed (1)
   --fits       fits of the largest planes as well, which take the Rust half a minute
   --case CASE  compare one case alone and show both outcomes; a case is";
@@ -27,7 +27,7 @@ struct Options {
 
 fn options() -> Result<Options, String> {
     let mut options = Options {
-        calls: 60_000,
+        calls: 150_000,
         seed: 1,
         fits: false,
         case: None,
