@@ -19,6 +19,10 @@ fn size(random: &mut Random) -> Size {
         60..82 => (1 + random.below(80), 1 + random.below(80)),
         82..92 => (random.pick(&LONG), 1 + random.below(8)),
         92..94 => (64 + random.below(200), 64 + random.below(200)),
+        94..96 => {
+            let w = 1 + random.below(4096);
+            (w, 1 + random.below(40_000 / w))
+        }
         _ => (random.pick(&REFUSED), random.below(9)),
     };
     if random.once_in(2) { (w, h) } else { (h, w) }

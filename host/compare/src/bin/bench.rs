@@ -73,7 +73,10 @@ fn rows() -> Vec<Row> {
     rows
 }
 
-/// The time of one turn of `work`, which is repeated until a clock can tell.
+/// Short work is repeated until it takes about this long.
+const TURN: Duration = Duration::from_millis(1);
+
+/// The time of one of so many turns of `work`.
 fn time(turns: u32, work: &mut dyn FnMut()) -> Duration {
     let start = Instant::now();
     for _ in 0..turns {
@@ -84,18 +87,14 @@ fn time(turns: u32, work: &mut dyn FnMut()) -> Duration {
 
 /// The best times of each of these works, taken in turn.
 fn best<const N: usize>(works: &mut [&mut dyn FnMut(); N]) -> [Duration; N] {
-    let turns: Vec<u32> = works
-        .iter_mut()
-        .map(|work| {
-            let once = time(1, work).max(Duration::from_nanos(20));
-            (Duration::from_millis(1).as_nanos() / once.as_nanos()) as u32 + 1
-        })
-        .collect();
-    let mut best = [Duration::MAX; N];
     let start = Instant::now();
+    let mut best = [Duration::MAX; N];
+    let mut turns = [1; N];
     for round in 0..15 {
         for (i, work) in works.iter_mut().enumerate() {
-            best[i] = best[i].min(time(turns[i], work));
+            let once = time(turns[i], work).max(Duration::from_nanos(1));
+            best[i] = best[i].min(once);
+            turns[i] = (TURN.as_nanos() / once.as_nanos()) as u32 + 1;
         }
         if round >= 2 && start.elapsed() > Duration::from_secs(2) {
             break;
