@@ -97,13 +97,7 @@ pub fn noise(kind: Noise, random: &mut Random, (w, h): Size, max: i32) -> Vec<i3
         Noise::Largest => vec![sign * max; w * h],
         Noise::Checkered => {
             let (down, along) = random.pick(&[(0, 1), (1, 0), (1, 1)]);
-            each(&mut |r, c| {
-                if (r * down + c * along) % 2 == 0 {
-                    max
-                } else {
-                    -max
-                }
-            })
+            each(&mut |r, c| [max, -max][(r * down + c * along) % 2])
         }
         Noise::EqualRows => {
             let row = signs(random, w, amplitude);

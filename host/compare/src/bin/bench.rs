@@ -5,6 +5,7 @@ use compare::calls::{CALLS, Call};
 use compare::input::{Input, Planes};
 use compare::noise::Size;
 use compare::scan;
+use std::cell::RefCell;
 use std::hint::black_box;
 use std::process::Command;
 use std::time::{Duration, Instant};
@@ -45,6 +46,12 @@ struct Row {
     name: String,
     calls: Vec<(&'static Call, u64)>,
     target: Option<f64>,
+}
+
+impl Row {
+    fn has_planes(&self) -> bool {
+        self.calls.iter().all(|(call, _)| !call.lent.is_empty())
+    }
 }
 
 fn rows() -> Vec<Row> {
@@ -103,17 +110,17 @@ fn best<const N: usize>(works: &mut [&mut dyn FnMut(); N]) -> [Duration; N] {
     best
 }
 
-fn ours(row: &Row, input: &mut Input, out: &mut Planes) {
+fn ours(row: &Row, input: &RefCell<Input>, out: &mut Planes) {
     for &(call, number) in &row.calls {
-        input.number = number;
-        black_box((call.ours)(input, out)).expect("an accepted call");
+        input.borrow_mut().number = number;
+        black_box((call.ours)(&input.borrow(), out)).expect("an accepted call");
     }
 }
 
-fn rust(row: &Row, input: &mut Input, out: &mut Planes) {
+fn rust(row: &Row, input: &RefCell<Input>, out: &mut Planes) {
     for &(call, number) in &row.calls {
-        input.number = number;
-        black_box((call.rust)(input, out));
+        input.borrow_mut().number = number;
+        black_box((call.rust)(&input.borrow(), out));
     }
 }
 
@@ -127,61 +134,61 @@ fn milliseconds(time: Duration) -> String {
     }
 }
 
-/// A register alone, for the calls that take no plane but step it.
-fn destination(row: &Row, input: &Input) -> Planes {
+/// What a row writes to: planes of a frame's size, or a register.
+fn destination(row: &Row, input: &RefCell<Input>) -> Planes {
     match row.calls[0].0.asks.bits {
         true => [vec![1], vec![], vec![]],
-        false => input.destination.clone(),
+        false => input.borrow().destination.clone(),
     }
 }
 
-fn table(size: Size, depth: u8) {
-    let mut input = scan::pair(size, depth);
-    let mut again = scan::pair(size, depth);
+/// The time to copy a frame's planes, and their bytes.
+fn copying(input: &Input) -> (Duration, usize) {
+    let frame = &input.frames[0];
+    let planes = [&frame.y, &frame.u, &frame.v];
     let mut copies = input.destination.clone();
-    let frame = input.frames[0].clone();
-    let [copying] = best(&mut [&mut || {
-        let [y, cb, cr] = &mut copies;
-        y.copy_from_slice(black_box(&frame.y));
-        cb.copy_from_slice(black_box(&frame.u));
-        cr.copy_from_slice(black_box(&frame.v));
-        black_box(&mut copies);
+    let [time] = best(&mut [&mut || {
+        for (to, from) in copies.iter_mut().zip(planes) {
+            black_box(to).copy_from_slice(black_box(from));
+        }
     }]);
-    let bytes = 2 * (frame.y.len() + frame.u.len() + frame.v.len());
+    (time, 2 * planes.map(Vec::len).iter().sum::<usize>())
+}
+
+fn table(size: Size, depth: u8) {
+    let input = RefCell::new(scan::pair(size, depth));
+    let (copy, bytes) = copying(&input.borrow());
     println!("\n## {} × {}, {depth} bits\n", size.0, size.1);
     println!(
         "Copying a frame's three planes ({:.1} MB) takes {} ms, {:.1} GB/s.\n",
         bytes as f64 / 1e6,
-        milliseconds(copying),
-        bytes as f64 / copying.as_secs_f64() / 1e9
+        milliseconds(copy),
+        bytes as f64 / copy.as_secs_f64() / 1e9
     );
     println!("| call | ours, ms | Rust, ms | times as fast | aim | ours, in copies of a frame |");
     println!("|---|---:|---:|---:|---:|---:|");
     for row in rows() {
         let mut written = destination(&row, &input);
         let mut made = destination(&row, &input);
-        let [a, b] = best(
-            &mut [&mut || ours(&row, &mut input, &mut written), &mut || {
-                rust(&row, &mut again, &mut made)
-            }],
-        );
-        let target = row.target.filter(|_| size == (4096, 4096));
-        let planes = row.calls.iter().all(|(call, _)| !call.lent.is_empty());
-        let copies = a.as_secs_f64() / copying.as_secs_f64();
+        let mut own = || ours(&row, &input, &mut written);
+        let mut other = || rust(&row, &input, &mut made);
+        let [a, b] = best(&mut [&mut own, &mut other]);
+        let ratio = b.as_secs_f64() / a.as_secs_f64();
+        let copies = a.as_secs_f64() / copy.as_secs_f64();
         println!(
-            "| {} | {} | {} | {:.1} | {} | {} |",
+            "| {} | {} | {} | {ratio:.1} | {} | {} |",
             row.name,
             milliseconds(a),
             milliseconds(b),
-            b.as_secs_f64() / a.as_secs_f64(),
-            target.map_or(String::new(), |t| t.to_string()),
-            if planes {
-                format!("{copies:.2}")
-            } else {
-                String::new()
-            }
+            shown(row.target.filter(|_| size == SIZES[2]), 1),
+            shown(Some(copies).filter(|_| row.has_planes()), 2),
         );
     }
+}
+
+/// A number with so many places, or nothing.
+fn shown(number: Option<f64>, places: usize) -> String {
+    number.map_or(String::new(), |x| format!("{x:.places$}"))
 }
 
 /// Nanoseconds for a luma sample, at each size.
@@ -190,17 +197,13 @@ fn growth(depth: u8) {
     let heads: Vec<String> = GROWTH.iter().map(|s| format!(" {}² |", s.0)).collect();
     println!("| call |{}", heads.concat());
     println!("|---|{}", "---:|".repeat(GROWTH.len()));
-    let mut inputs: Vec<Input> = GROWTH.iter().map(|&s| scan::pair(s, depth)).collect();
-    for row in rows() {
-        if row.calls.iter().any(|(call, _)| call.lent.is_empty()) {
-            continue;
-        }
+    let inputs = GROWTH.map(|size| RefCell::new(scan::pair(size, depth)));
+    for row in rows().iter().filter(|row| row.has_planes()) {
         print!("| {} |", row.name);
-        for input in &mut inputs {
-            let samples = (input.width * input.height) as f64;
-            let mut out = input.destination.clone();
-            let [a] = best(&mut [&mut || ours(&row, input, &mut out)]);
-            print!(" {:.3} |", a.as_secs_f64() * 1e9 / samples);
+        for (input, (w, h)) in inputs.iter().zip(GROWTH) {
+            let mut out = destination(row, input);
+            let [time] = best(&mut [&mut || ours(row, input, &mut out)]);
+            print!(" {:.3} |", time.as_secs_f64() * 1e9 / (w * h) as f64);
         }
         println!();
     }

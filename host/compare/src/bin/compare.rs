@@ -106,9 +106,9 @@ fn report(counts: &[Count]) {
 fn run(options: &Options) -> (Vec<Count>, Option<Case>) {
     let large = draw::largest(options.fits);
     let total = options.calls + large.len() as u64;
-    let case = |index: u64| match large.get(index as usize) {
-        Some(case) => case.clone(),
-        None => draw::case(options.seed, index - large.len() as u64),
+    let case = |index: u64| match index.checked_sub(options.calls) {
+        Some(at) => large[at as usize].clone(),
+        None => draw::case(options.seed, index),
     };
     let next = AtomicU64::new(0);
     let sums = Mutex::new((vec![Count::default(); CALLS.len()], None));
