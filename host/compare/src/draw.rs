@@ -28,6 +28,9 @@ fn size(random: &mut Random) -> Size {
     if random.once_in(2) { (w, h) } else { (h, w) }
 }
 
+/// Sizes of a multiple of 1,024 samples, in luma or in chroma.
+const THOUSANDS: [Size; 6] = [(32, 32), (64, 16), (1024, 1), (64, 64), (96, 32), (512, 20)];
+
 fn fault(random: &mut Random) -> Fault {
     let plane = random.below(9);
     random.pick(&[Fault::Short(plane), Fault::Long(plane), Fault::High(plane)])
@@ -49,9 +52,11 @@ pub fn case(seed: u64, index: u64) -> Case {
         .expect("shares add up");
     let number = (call.number)(&mut random);
     let seed = random.bits() >> 40;
-    let (width, height) = match call.asks.size {
-        true => size(&mut random),
-        false => (0, 0),
+    let noise = random.pick(&Noise::ALL);
+    let (width, height) = match noise {
+        _ if !call.asks.size => (0, 0),
+        Noise::Halves => random.pick(&THOUSANDS),
+        _ => size(&mut random),
     };
     Case {
         call,
@@ -68,7 +73,7 @@ pub fn case(seed: u64, index: u64) -> Case {
             _ if !call.asks.frame => 0,
             _ => random.below(4) as u8,
         },
-        noise: random.pick(&Noise::ALL),
+        noise,
         number,
         faults: match random.below(20) {
             0 => vec![fault(&mut random)],
