@@ -2,4 +2,3 @@ pub mod Averages
 pub mod Taps
 pub mod Answers
 pub mod OnlyCr
-pub mod Cases

@@ -2,4 +2,3 @@ pub mod Denoise
 pub mod Within
 pub mod Calls
 pub mod Line
-pub mod Cases

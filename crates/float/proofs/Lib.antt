@@ -11,4 +11,3 @@ pub mod NearestRoot
 pub mod Coefficient
 pub mod WholeSigma
 pub mod NearestSigma
-pub mod Cases

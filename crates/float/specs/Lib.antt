@@ -5,4 +5,3 @@ pub mod Root
 pub mod Steps
 pub mod Coefficient
 pub mod Sigma
-pub mod Cases

@@ -6,4 +6,3 @@ pub mod Samples
 pub mod Gathered
 pub mod Facts
 pub mod Accepted
-pub mod Cases

@@ -2,4 +2,3 @@ pub mod Size
 pub mod Text
 pub mod Questions
 pub mod Calls
-pub mod Cases

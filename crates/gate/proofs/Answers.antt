@@ -11,7 +11,8 @@ use Rattle.frame.proofs.Refusal.{granted}
 use Rattle.profile.specs.Steps.{planeSigma16}
 use Rattle.profile.specs.Answers.{sigmaAnswer}
 use Rattle.profile.specs.declared.Sigma.{Sigma}
-use Rattle.gate.specs.RowCorrelation.{pair, rowCorrelation}
+use Rattle.noise.specs.Products.{pair}
+use Rattle.gate.specs.RowCorrelation.{rowCorrelation}
 use Rattle.gate.specs.Answers.{rho, rhoAnswer, gate, lumaAnswer, chromaAnswer}
 use Rattle.gate.specs.Tests.{lumaFinding, chromaFinding, isPassed}
 use Rattle.gate.proofs.Accepted.{first-plane}

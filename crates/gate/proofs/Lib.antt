@@ -5,7 +5,6 @@ pub mod Findings
 pub mod Answers
 pub mod Yes
 pub mod PlusZero
-pub mod Cases
 pub mod Energy
 pub mod Within
 pub mod RowWithin

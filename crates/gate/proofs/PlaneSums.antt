@@ -7,13 +7,13 @@ use lib.Ieee.{binary64, ofInt}
 use Rattle.laws.specs.Scaled.{ofScaled}
 use Rattle.laws.proofs.Scaled.{scaled-int}
 use Rattle.noise.specs.Lines.{Plane}
-use Rattle.noise.specs.Products.{own, onward}
+use Rattle.noise.specs.Products.{pair, own, onward}
 use Rattle.noise.specs.Claim.{Limited, frameSamples, frameTop}
 use Rattle.noise.specs.Steps.{dotF, lagF}
 use Rattle.noise.proofs.Accepted.{plane-samples}
 use Rattle.noise.proofs.Products.{frame-held}
 use Rattle.noise.proofs.Steps.{laggedSum, dot-window, dot-sum, lag-sum}
-use Rattle.gate.specs.RowCorrelation.{pair, energyF}
+use Rattle.gate.specs.RowCorrelation.{energyF}
 
 module _ (w h : ℕ) (narrow : w ≤ 4096) (short : h ≤ 4096) where
   limited : (s d : List ℕ) → Plane w h s d → Limited frameSamples frameTop (own (pair s d w h))

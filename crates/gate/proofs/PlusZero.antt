@@ -10,9 +10,9 @@ use borrow.Author.Tests.{le-leb, eq-eqb}
 use Rattle.laws.specs.Scaled.{plusZero, ofScaled}
 use Rattle.laws.proofs.Scaled.{scaled-zero}
 use Rattle.noise.specs.Lines.{Plane}
-use Rattle.noise.specs.Products.{Pair}
+use Rattle.noise.specs.Products.{Pair, pair}
 use Rattle.noise.proofs.Steps.{laggedSum}
-use Rattle.gate.specs.RowCorrelation.{pair, energyF, rowCorrelation}
+use Rattle.gate.specs.RowCorrelation.{energyF, rowCorrelation}
 use Rattle.gate.proofs.PlaneSums.{energy-is}
 
 any : (b : Bool) → (b || true) ≡ true

@@ -18,11 +18,12 @@ use Rattle.frame.specs.Calls.{deepPlaneRefusal}
 use Rattle.frame.proofs.Accepted.{deep-plane-call}
 use Rattle.noise.specs.Noise.{noise, place}
 use Rattle.noise.specs.Lines.{Plane}
+use Rattle.noise.specs.Products.{pair}
 use Rattle.noise.specs.Steps.{lagF}
 use Rattle.noise.proofs.Steps.{laggedSum}
 use Rattle.noise.proofs.Grids.{plane-noise-le}
 use Rattle.noise.proofs.Accepted.{plane-of}
-use Rattle.gate.specs.RowCorrelation.{pair, energyF, rowCorrelation}
+use Rattle.gate.specs.RowCorrelation.{energyF, rowCorrelation}
 use Rattle.gate.specs.Answers.{rho, rhoAnswer}
 use Rattle.gate.specs.declared.Rho.the-variants.{Value}
 use Rattle.gate.proofs.PlaneSums.{lagged-is, energy-is}

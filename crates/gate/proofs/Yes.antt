@@ -12,10 +12,10 @@ use Rattle.frame.specs.Questions.{accepted}
 use Rattle.frame.specs.Calls.{lumaGateRefusal, chromaGateRefusal}
 use Rattle.frame.specs.declared.Shape.{Shape}
 use Rattle.float.specs.Magnitude.{magnitudeOf}
-use Rattle.noise.specs.Products.{Pair}
+use Rattle.noise.specs.Products.{Pair, pair}
 use Rattle.noise.specs.Steps.{dotF}
 use Rattle.profile.specs.Steps.{planeSigma16}
-use Rattle.gate.specs.RowCorrelation.{pair, rowCorrelation}
+use Rattle.gate.specs.RowCorrelation.{rowCorrelation}
 use Rattle.gate.specs.Tests.{rowBound, temporal, lumaRow, lumaFinding, chromaFinding, isPassed}
 use Rattle.gate.specs.Answers.{lumaAnswer, chromaAnswer}
 use Rattle.gate.specs.Passes.{LumaPasses, ChromaPasses}

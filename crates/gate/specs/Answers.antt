@@ -6,7 +6,8 @@ use lib.Ieee.{Float}
 use Rattle.frame.specs.Size.{chromaWidth, chromaHeight}
 use Rattle.frame.specs.Calls.{deepPlaneRefusal, lumaGateRefusal, chromaGateRefusal}
 use Rattle.profile.specs.Steps.{planeSigma16}
-use Rattle.gate.specs.RowCorrelation.{pair, rowCorrelation}
+use Rattle.noise.specs.Products.{pair}
+use Rattle.gate.specs.RowCorrelation.{rowCorrelation}
 use Rattle.frame.specs.Questions.{accepted}
 use Rattle.frame.specs.declared.Shape.{Shape}
 use Rattle.gate.specs.Tests.{lumaFinding, chromaFinding, isPassed}

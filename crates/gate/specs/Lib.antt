@@ -2,4 +2,3 @@ pub mod RowCorrelation
 pub mod Tests
 pub mod Answers
 pub mod Passes
-pub mod Cases

@@ -1,17 +1,12 @@
 -- "Sum of noise products `lag` columns apart, over the sum of squares, one division. Plus zero if lag is 0, width is at most lag, height is 0 or the energy is 0."
 -- The steps of `lag_h_rho`.
 use mathlib.Core.Bool.{cond, _||_}
-use mathlib.Core.List.{List}
 use Prim.Native.Nat.{ℕ}
 use lib.Dec.{eqb, leb}
 use lib.Ieee.{Float, binary64, div, le}
 use Rattle.laws.specs.Scaled.{plusZero}
 use Rattle.noise.specs.Products.{Pair, own}
 use Rattle.noise.specs.Steps.{windowF, lagF}
-
--- a plane w wide and h high, and its denoised copy
-abbrev pub pair : List ℕ → List ℕ → ℕ → ℕ → Pair
-pair source denoised w h = record { source = source; denoised = denoised; width = w; height = h }
 
 -- `e += n[r * w + c] * n[r * w + c];` over every row and column
 unfoldable pub energyF : Pair → Float

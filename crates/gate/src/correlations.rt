@@ -3,7 +3,8 @@ use crate::sums;
 ghost use mathlib.Core.Path.{_≡_};
 ghost use Prim.Native.Nat.{_≤_};
 ghost use Rattle.noise.specs.Lines.{Plane};
-ghost use Rattle.gate.specs.RowCorrelation.{pair, rowCorrelation};
+ghost use Rattle.noise.specs.Products.{pair};
+ghost use Rattle.gate.specs.RowCorrelation.{rowCorrelation};
 
 // Σ n(r, c) × n(r, c + lag) / Σ n(r, c)².
 pub fn row_correlation(src: &[u16], den: &[u16], w: usize, h: usize, lag: usize) -> f64

@@ -2,8 +2,8 @@
 ghost use mathlib.Core.Path.{_≡_};
 ghost use Prim.Native.Nat.{_≤_};
 ghost use Rattle.noise.specs.Lines.{Plane};
+ghost use Rattle.noise.specs.Products.{pair};
 ghost use Rattle.noise.specs.Steps.{dotF, lagF};
-ghost use Rattle.gate.specs.RowCorrelation.{pair};
 
 // Σ n₀ × n₁ over the places of two planes of noise.
 pub fn dot(src0: &[u16], den0: &[u16], src1: &[u16], den1: &[u16], w: usize, h: usize) -> f64

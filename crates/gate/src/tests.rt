@@ -4,8 +4,8 @@ use crate::sums;
 ghost use mathlib.Core.Path.{_≡_};
 ghost use Prim.Native.Nat.{_*_, _<_, _≤_};
 ghost use Rattle.noise.specs.Lines.{Plane};
+ghost use Rattle.noise.specs.Products.{pair};
 ghost use Rattle.noise.specs.Steps.{dotF};
-ghost use Rattle.gate.specs.RowCorrelation.{pair};
 ghost use Rattle.gate.specs.Tests.{temporal, lumaFinding, chromaFinding, isPassed};
 
 // What a gate finds: the first test that fails, or that all passed.

@@ -13,4 +13,3 @@ pub mod FloatSums
 pub mod Law
 pub mod LoopLaw
 pub mod Limits
-pub mod SumCases

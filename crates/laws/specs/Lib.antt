@@ -1,6 +1,5 @@
 pub mod Loop
 pub mod Table
-pub mod Cases
 pub mod Sums
 pub mod Scaled
 pub mod Window
@@ -8,4 +7,3 @@ pub mod Sets
 pub mod FloatSums
 pub mod Law
 pub mod FrameLimit
-pub mod SumCases

@@ -11,13 +11,13 @@ use lib.Ieee.{Float, binary64, add, div, ofBits}
 use lib.Ieee.Exact.{HasValue}
 use Rattle.laws.specs.Loop.{loop, turns}
 use Rattle.laws.specs.Sums.{sumTo}
-use Rattle.laws.specs.Scaled.{ofScaled, Holds}
+use Rattle.laws.specs.Scaled.{plusZero, ofScaled, Holds}
 use Rattle.laws.proofs.Sums.{sum-bound}
 use Rattle.laws.proofs.Whole.{abs-mul}
 use Rattle.laws.proofs.Scaled.{holds-scaled, holds-finer, div-scaled}
 use Rattle.laws.proofs.LoopLaw.{plane-exact}
 use Rattle.noise.specs.Noise.{noise, noiseF}
-use Rattle.noise.specs.Average.{Luma, subX, subY, lumaPlace, plusZero, one, visited, averageF, quarters}
+use Rattle.noise.specs.Average.{Luma, subX, subY, lumaPlace, one, visited, averageF, quarters}
 use Rattle.noise.proofs.FloatNoise.{noise-exact}
 
 -- 1, 2 or 4 luma noises, and 1.0 for each

@@ -7,7 +7,6 @@ pub mod Products
 pub mod Accepted
 pub mod Steps
 pub mod FitWindow
-pub mod Cases
 pub mod Fill
 pub mod Lines
 pub mod Shift

@@ -10,7 +10,7 @@ use lib.Signed.{leZ-yes, ltZ-yes}
 use lib.Ieee.{Float, binary64, add, mul, ofBits}
 use Rattle.laws.specs.Loop.{loop}
 use Rattle.laws.specs.Sums.{sumTo, span}
-use Rattle.laws.specs.Scaled.{ofScaled}
+use Rattle.laws.specs.Scaled.{plusZero, ofScaled}
 use Rattle.laws.specs.Window.{window}
 use Rattle.laws.specs.FloatSums.{sumF}
 use Rattle.laws.specs.Law.{Held}
@@ -18,7 +18,6 @@ use Rattle.laws.proofs.Sums.{sum-ext, span-zero}
 use Rattle.laws.proofs.Window.{in-window, window-nodup, sum-window}
 use Rattle.laws.proofs.FloatSums.{loops-sum}
 use Rattle.noise.specs.Noise.{noise, noiseF, place}
-use Rattle.noise.specs.Average.{plusZero}
 use Rattle.noise.specs.Grids.{sumOver}
 use Rattle.noise.specs.Products.{Pair, Factor, own, onward, Inside, Exists, reached, productF, exactly, scale}
 use Rattle.noise.specs.Claim.{Limited, limitOf, PositionsOf}

@@ -7,6 +7,7 @@ use lib.IntN.{ℤ, pos, _*ℤ_}
 use lib.Ieee.{Float, binary64, add, div, ofBits}
 use Rattle.laws.specs.Loop.{loop}
 use Rattle.laws.specs.Sums.{sumTo}
+use Rattle.laws.specs.Scaled.{plusZero}
 use Rattle.noise.specs.Noise.{noise, noiseF, place}
 
 -- `subsampling()` of yuv_frame.rs: whether a format halves the columns, and the rows
@@ -28,9 +29,6 @@ pub record Luma : Type 0 where
 abbrev pub lumaPlace : Luma → ℕ → ℕ → ℕ → ℕ → ℕ
 lumaPlace l r c i j =
     place (l .width) (min (r * 2 ^ subY (l .format) + i) (l .height - 1)) (min (c * 2 ^ subX (l .format) + j) (l .width - 1))
-
-abbrev pub plusZero : Float
-plusZero = ofBits binary64 0
 
 abbrev pub one : Float
 one = ofBits binary64 0x3ff0_0000_0000_0000

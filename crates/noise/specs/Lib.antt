@@ -4,7 +4,6 @@ pub mod Average
 pub mod Products
 pub mod Claim
 pub mod Steps
-pub mod Cases
 pub mod Lines
 pub mod Grids
 pub mod Quarters

@@ -17,6 +17,10 @@ pub record Pair : Type 0 where
   pub width : ℕ
   pub height : ℕ
 
+-- a plane w wide and h high, and its copy
+abbrev pub pair : List ℕ → List ℕ → ℕ → ℕ → Pair
+pair source denoised w h = record { source = source; denoised = denoised; width = w; height = h }
+
 -- what is multiplied, seen from a place: the noise of a plane some rows down and columns on from there, or the luma average of a chroma place
 pub data Factor : Type 0 where
   noiseFrom : Pair → ℤ → ℤ → Factor

@@ -7,9 +7,10 @@ use lib.IntN.{ℤ, pos, negℤ}
 use lib.Signed.{_≤ℤ_}
 use lib.Ieee.{Float, binary64, add, mul}
 use Rattle.laws.specs.Loop.{loop}
+use Rattle.laws.specs.Scaled.{plusZero}
 use Rattle.frame.specs.Size.{chromaWidth, chromaHeight}
 use Rattle.noise.specs.Noise.{noiseF, place}
-use Rattle.noise.specs.Average.{Luma, plusZero}
+use Rattle.noise.specs.Average.{Luma}
 use Rattle.noise.specs.Products.{Pair, Factor, noiseFrom, average, productF}
 
 -- the fits, the chroma correlation, the energy in `lag_h_rho`, the row correlation in `film_grain_probe`: `for y in a..b { for x in c..d { sum += u * v; } }`

@@ -14,5 +14,4 @@ pub mod AddUp
 pub mod Figures
 pub mod AsWorded
 pub mod Calls
-pub mod Cases
 pub mod PartBins

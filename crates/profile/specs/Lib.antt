@@ -5,4 +5,3 @@ pub mod Steps
 pub mod Parts
 pub mod Answers
 pub mod Words
-pub mod Cases

@@ -2,4 +2,3 @@ pub mod Hints
 pub mod Moves
 pub mod Agree
 pub mod Draws
-pub mod Cases

@@ -2,4 +2,3 @@ pub mod Seed
 pub mod Text
 pub mod Steps
 pub mod Register
-pub mod Cases

@@ -1,3 +1,2 @@
 pub mod Elimination
 pub mod Answer
-pub mod Cases

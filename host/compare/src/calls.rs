@@ -28,6 +28,8 @@ pub struct Call {
     pub added: fn(&Input) -> Words,
     /// A frame call by the C interface, for formats that the safe one can't name.
     pub raw: Option<fn(&Input, &mut Planes) -> u32>,
+    /// The numbers it is timed with, and how many times as fast as the Rust it should be on the largest planes.
+    pub timed: &'static [(u64, Option<f64>)],
 }
 
 const fn plane(frame: usize, denoised: bool, component: usize) -> Plane {
@@ -93,6 +95,7 @@ const PLAIN: Call = Call {
     rust: |_, _| Words::new(),
     added: |_| Words::new(),
     raw: None,
+    timed: &[(0, None)],
 };
 
 fn lag(random: &mut Random) -> u64 {
@@ -112,6 +115,7 @@ pub const CALLS: &[Call] = &[
         share: 4,
         ours: ours::denoise_plane,
         rust: rust::denoise_plane,
+        timed: &[(0, Some(6.0))],
         ..PLAIN
     },
     Call {
@@ -123,6 +127,7 @@ pub const CALLS: &[Call] = &[
         ours: ours::denoise_frame,
         rust: rust::denoise_frame,
         raw: Some(raw::denoise_frame),
+        timed: &[(0, Some(6.0))],
         ..PLAIN
     },
     Call {
@@ -143,6 +148,7 @@ pub const CALLS: &[Call] = &[
         rust: rust::noise_estimate,
         added: rust::bins,
         raw: Some(raw::noise_estimate),
+        timed: &[(0, Some(1.5))],
         ..PLAIN
     },
     Call {
@@ -153,6 +159,7 @@ pub const CALLS: &[Call] = &[
         share: 5,
         ours: ours::lag_h_rho,
         rust: rust::lag_h_rho,
+        timed: &[(1, Some(8.0))],
         ..PLAIN
     },
     Call {
@@ -163,6 +170,7 @@ pub const CALLS: &[Call] = &[
         ours: ours::film_grain_probe,
         rust: rust::film_grain_probe,
         raw: Some(raw::film_grain_probe),
+        timed: &[(0, Some(8.0))],
         ..PLAIN
     },
     Call {
@@ -174,6 +182,7 @@ pub const CALLS: &[Call] = &[
         ours: |input, _| ours::chroma_noise_gate(input, Chroma::Cb),
         rust: |input, _| rust::chroma_noise_gate(input, 1),
         raw: Some(|input, _| raw::chroma_noise_gate(input, 1)),
+        timed: &[(100, Some(8.0))],
         ..PLAIN
     },
     Call {
@@ -185,6 +194,7 @@ pub const CALLS: &[Call] = &[
         ours: |input, _| ours::chroma_noise_gate(input, Chroma::Cr),
         rust: |input, _| rust::chroma_noise_gate(input, 2),
         raw: Some(|input, _| raw::chroma_noise_gate(input, 2)),
+        timed: &[(100, Some(8.0))],
         ..PLAIN
     },
     Call {
@@ -195,6 +205,7 @@ pub const CALLS: &[Call] = &[
         ours: ours::fit_chroma_corr,
         rust: rust::fit_chroma_corr,
         raw: Some(raw::fit_chroma_corr),
+        timed: &[(0, Some(8.0))],
         ..PLAIN
     },
     Call {
@@ -206,6 +217,7 @@ pub const CALLS: &[Call] = &[
         number: lag,
         ours: ours::ar_positions,
         rust: rust::ar_positions,
+        timed: &[(3, None)],
         ..PLAIN
     },
     Call {
@@ -220,6 +232,7 @@ pub const CALLS: &[Call] = &[
         ours: ours::fit_ar_lag,
         rust: rust::fit_ar_lag,
         raw: Some(raw::fit_ar_lag),
+        timed: &[(1, Some(35.0)), (2, Some(35.0)), (3, Some(60.0))],
         ..PLAIN
     },
     Call {
@@ -236,6 +249,7 @@ pub const CALLS: &[Call] = &[
         share: 5,
         ours: ours::solve_normal,
         rust: rust::solve_normal,
+        timed: &[(24, None)],
         ..PLAIN
     },
     Call {
@@ -251,6 +265,7 @@ pub const CALLS: &[Call] = &[
         share: 2,
         ours: ours::grain_seed_for,
         rust: rust::grain_seed_for,
+        timed: &[(1, None)],
         ..PLAIN
     },
     Call {
@@ -265,6 +280,7 @@ pub const CALLS: &[Call] = &[
         share: 3,
         ours: ours::register_next,
         rust: rust::register_next,
+        timed: &[(11, None)],
         ..PLAIN
     },
 ];

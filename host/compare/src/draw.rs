@@ -19,10 +19,17 @@ fn size(random: &mut Random) -> Size {
         60..82 => (1 + random.below(80), 1 + random.below(80)),
         82..92 => (random.pick(&LONG), 1 + random.below(8)),
         92..94 => (64 + random.below(200), 64 + random.below(200)),
+        94..96 => {
+            let w = 1 + random.below(4096);
+            (w, 1 + random.below(40_000 / w))
+        }
         _ => (random.pick(&REFUSED), random.below(9)),
     };
     if random.once_in(2) { (w, h) } else { (h, w) }
 }
+
+/// Sizes of a multiple of 1,024 samples, in luma or in chroma.
+const THOUSANDS: [Size; 6] = [(32, 32), (64, 16), (1024, 1), (64, 64), (96, 32), (512, 20)];
 
 fn fault(random: &mut Random) -> Fault {
     let plane = random.below(9);
@@ -45,9 +52,11 @@ pub fn case(seed: u64, index: u64) -> Case {
         .expect("shares add up");
     let number = (call.number)(&mut random);
     let seed = random.bits() >> 40;
-    let (width, height) = match call.asks.size {
-        true => size(&mut random),
-        false => (0, 0),
+    let noise = random.pick(&Noise::ALL);
+    let (width, height) = match noise {
+        _ if !call.asks.size => (0, 0),
+        Noise::Halves => random.pick(&THOUSANDS),
+        _ => size(&mut random),
     };
     Case {
         call,
@@ -64,7 +73,7 @@ pub fn case(seed: u64, index: u64) -> Case {
             _ if !call.asks.frame => 0,
             _ => random.below(4) as u8,
         },
-        noise: random.pick(&Noise::ALL),
+        noise,
         number,
         faults: match random.below(20) {
             0 => vec![fault(&mut random)],

@@ -12,5 +12,6 @@ mod questions;
 pub mod random;
 mod raw;
 mod rust;
+pub mod scan;
 pub mod system;
 mod words;

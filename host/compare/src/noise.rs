@@ -15,8 +15,14 @@ pub enum Noise {
     Coloured,
     /// A few samples alone have any.
     Sparse,
+    /// Along the edges alone, but for a sample or two: fits of little energy.
+    Edges,
     /// Plus or minus one value: correlations near the gates' limits.
     Signs,
+    /// A sigma16 halfway between two whole numbers, in planes of a multiple of 1,024 samples.
+    Halves,
+    /// Two frames, at 12 bits, whose correlation is below 0.4 and rounds to 0.4.
+    Verge,
     /// The largest of either sign, at random.
     Extreme,
     /// The largest everywhere, of one sign.
@@ -40,13 +46,16 @@ pub enum Noise {
 }
 
 impl Noise {
-    pub const ALL: [Noise; 16] = [
+    pub const ALL: [Noise; 19] = [
         Noise::Flat,
         Noise::Constant,
         Noise::Random,
         Noise::Coloured,
         Noise::Sparse,
+        Noise::Edges,
         Noise::Signs,
+        Noise::Halves,
+        Noise::Verge,
         Noise::Extreme,
         Noise::Largest,
         Noise::Checkered,
@@ -85,25 +94,28 @@ pub fn noise(kind: Noise, random: &mut Random, (w, h): Size, max: i32) -> Vec<i3
         Noise::Sparse => {
             let mut all = vec![0; w * h];
             for _ in 0..random.between(1, 4) {
-                if !all.is_empty() {
-                    let place = random.below(all.len());
-                    all[place] = random.between(-amplitude, amplitude);
-                }
+                add(random, &mut all, amplitude, max);
+            }
+            all
+        }
+        Noise::Edges => {
+            let edge = random.pick(&[1, 1, 2, 3]);
+            let inside = |r, c| r >= edge && c >= edge && c + edge < w;
+            let any = random.between(1, 3);
+            let mut all = each(&mut |r, c| i32::from(!inside(r, c)) * random.between(-any, any));
+            for _ in 0..random.below(3) {
+                add(random, &mut all, 1, max);
             }
             all
         }
         Noise::Signs => signs(random, w * h, amplitude),
+        Noise::Halves => halves(random, w * h, max),
+        Noise::Verge => start_with(&VERGE[0], w * h, max),
         Noise::Extreme => each(&mut |_, _| random.pick(&[-max, max])),
         Noise::Largest => vec![sign * max; w * h],
         Noise::Checkered => {
             let (down, along) = random.pick(&[(0, 1), (1, 0), (1, 1)]);
-            each(&mut |r, c| {
-                if (r * down + c * along) % 2 == 0 {
-                    max
-                } else {
-                    -max
-                }
-            })
+            each(&mut |r, c| [max, -max][(r * down + c * along) % 2])
         }
         Noise::EqualRows => {
             let row = signs(random, w, amplitude);
@@ -120,22 +132,24 @@ pub fn noise(kind: Noise, random: &mut Random, (w, h): Size, max: i32) -> Vec<i3
                 random.between(-3, 3),
             );
             let mut all = each(&mut |r, c| start + down * r as i32 + along * c as i32);
-            nudge(kind == Noise::NearRamp, random, &mut all, max);
+            if kind == Noise::NearRamp {
+                add(random, &mut all, 1, max);
+            }
             all
         }
         Noise::NearRows => {
             let mut all = noise(Noise::EqualRows, random, (w, h), max);
-            nudge(true, random, &mut all, max);
+            add(random, &mut all, 1, max);
             all
         }
     }
 }
 
-/// One sample off by one.
-fn nudge(wanted: bool, random: &mut Random, all: &mut [i32], max: i32) {
-    if wanted && !all.is_empty() {
+/// One sample off by so much, up or down.
+fn add(random: &mut Random, all: &mut [i32], size: i32, max: i32) {
+    if !all.is_empty() {
         let place = random.below(all.len());
-        all[place] = (all[place] + 1).min(max);
+        all[place] = (all[place] + random.pick(&[-size, size])).clamp(-max, max);
     }
 }
 
@@ -173,9 +187,43 @@ fn signs(random: &mut Random, n: usize, size: i32) -> Vec<i32> {
     all
 }
 
+/// (2k + 1)² samples in 1,024 of plus or minus an odd number of 8-bit steps: sixteen times the root of the mean square is
+/// that number times k + 1/2.
+fn halves(random: &mut Random, n: usize, max: i32) -> Vec<i32> {
+    let odd = 2 * random.pick(&[0, 1, 7, 15, 15]) + 1;
+    let size = random.pick(&[1, 1, 1, 3, 5]) * (max + 1) / 256;
+    let some = (odd * odd * n / 1024).max(1).min(n);
+    let mut all = vec![0; n];
+    all[..some].fill_with(|| random.pick(&[-size, size]));
+    all
+}
+
+/// Noises of two frames with energies 194438347 and 198710096 and a cross sum of 78625047: 25 × cross² is 23 below
+/// 4 × e0 × e1, and the f64 quotient is that of 0.4.
+const VERGE: [[i32; 33]; 2] = [
+    [
+        -3798, 0, -3393, 0, 3876, 0, -3495, 0, 0, 0, 0, 0, 2970, 50, 0, -3285, 0, 3999, 0, 3646,
+        -3623, 0, -3462, -3240, 0, 0, -3702, -3736, 0, 1, -3866, 0, -3761,
+    ],
+    [
+        -2003, 2975, -1634, 3059, 1740, -3506, -1344, -2612, 2994, -3311, 2618, 3495, 641, -2853,
+        2687, -1710, 2910, 1508, 3038, 1365, -1397, 2656, -1931, -940, 2824, -3703, -1124, -2085,
+        3756, 33, -1158, 3549, -1177,
+    ],
+];
+
+/// These noises first, then none.
+fn start_with(list: &[i32], n: usize, max: i32) -> Vec<i32> {
+    let given = list.iter().map(|&d| d.clamp(-max, max));
+    given.chain(std::iter::repeat(0)).take(n).collect()
+}
+
 /// The second frame's noise: its own, the first's, or the first's with signs turned until the two frames' correlation is
 /// about the gates' limit.
 pub fn second(kind: Noise, random: &mut Random, first: &[i32], size: Size, max: i32) -> Vec<i32> {
+    if kind == Noise::Verge {
+        return start_with(&VERGE[1], first.len(), max);
+    }
     let mut again = first.to_vec();
     let turned = match random.below(6) {
         0 | 1 => return noise(kind, random, size, max),

@@ -63,21 +63,33 @@ impl System {
         system
     }
 
+    /// The normal equations of some noise: symmetric, with a solution.
+    pub fn normal(random: &mut Random) -> System {
+        let mut system = System::new(random, false);
+        for row in system.a.iter_mut().chain([&mut system.b]) {
+            row.fill_with(|| value(random, 0));
+        }
+        system.multiply();
+        system
+    }
+
+    /// Each entry the product of two columns.
+    fn multiply(&mut self) {
+        let columns = *self.a;
+        for i in 0..25 {
+            for j in 0..25 {
+                self.a[i][j] = (0..25).map(|k| columns[k][i] * columns[k][j]).sum();
+            }
+        }
+    }
+
     fn fill(&mut self, random: &mut Random) {
         let kind = random.below(6);
         for row in self.a.iter_mut().chain([&mut self.b]) {
             row.fill_with(|| value(random, kind));
         }
         match random.below(8) {
-            // Normal equations: symmetric, each the products of two columns.
-            0 | 1 => {
-                let columns = *self.a;
-                for i in 0..25 {
-                    for j in 0..25 {
-                        self.a[i][j] = (0..25).map(|k| columns[k][i] * columns[k][j]).sum();
-                    }
-                }
-            }
+            0 | 1 => self.multiply(),
             // One row again, or twice another: singular, or a rounding away from it.
             2 => {
                 let (from, to) = (random.below(6), random.below(6));

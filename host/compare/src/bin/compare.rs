@@ -13,7 +13,7 @@ use std::thread;
 const USAGE: &str = "\
 compare [--calls N] [--seed S] [--fits] [--case CASE]
 
-  --calls N    compare N drawn cases (60000) and the largest planes
+  --calls N    compare N drawn cases (150000) and the largest planes
   --seed S     draw the cases of another seed (1)
   --fits       fits of the largest planes as well, which take the Rust half a minute
   --case CASE  compare one case alone and show both outcomes; a case is";
@@ -27,7 +27,7 @@ struct Options {
 
 fn options() -> Result<Options, String> {
     let mut options = Options {
-        calls: 60_000,
+        calls: 150_000,
         seed: 1,
         fits: false,
         case: None,
@@ -106,9 +106,9 @@ fn report(counts: &[Count]) {
 fn run(options: &Options) -> (Vec<Count>, Option<Case>) {
     let large = draw::largest(options.fits);
     let total = options.calls + large.len() as u64;
-    let case = |index: u64| match large.get(index as usize) {
-        Some(case) => case.clone(),
-        None => draw::case(options.seed, index - large.len() as u64),
+    let case = |index: u64| match index.checked_sub(options.calls) {
+        Some(at) => large[at as usize].clone(),
+        None => draw::case(options.seed, index),
     };
     let next = AtomicU64::new(0);
     let sums = Mutex::new((vec![Count::default(); CALLS.len()], None));

@@ -1,0 +1,81 @@
+-- Coefficient i belongs to neighbour i, in the normal equations (`row-is`) as in the specification's filter (`filter-is`), wherever all neighbours exist; and how many coefficients there are. Assumes nothing.
+use mathlib.Core.Path.{_≡_, refl, sym, ap, _∙_}
+use mathlib.Core.List.{List, [], _∷_, _++_, map}
+use Prim.Native.Nat.{ℕ, zero, suc, _+_, _-_, _*_, _/_, _%_, _≤_, _<_}
+use native.Mathlib.Nat.{add-zero, zero-add}
+use native.Mathlib.Omega.{arith}
+use borrow.Author.Tests.{lt-ltb}
+use lib.IntN.{ℤ, pos, natAbs, _+ℤ_, _-ℤ_, _*ℤ_, +ℤ-idl, +ℤ-idr, +ℤ-assoc}
+use lib.ListN.{length, getD}
+use Rattle.laws.specs.Sums.{sumTo}
+use Rattle.laws.specs.Table.{tabulate}
+use Rattle.laws.proofs.Sums.{sum-ext}
+use Rattle.laws.proofs.Table.{length-tabulate, getD-tabulate, map-tabulate, tabulate-same}
+use Rattle.normal.specs.Normal.{Picture, side, neighbours, neighbour}
+use Rattle.normal.proofs.Sizes.{neighbours-le}
+use Rattle.positions.specs.Text.{Delta, walk, coefficientOf, filtered, numPosLuma, numPosChroma}
+use Rattle.positions.specs.Positions.{positions, offsetBy}
+use Rattle.positions.specs.Neighbours.{sample}
+use Rattle.positions.proofs.Offsets.{offset-add}
+use Rattle.positions.proofs.Places.{placeAt}
+use Rattle.positions.proofs.Steps.{positions-are}
+use Rattle.positions.proofs.Text.{walk-is}
+use Rattle.positions.proofs.Neighbours.{walk-neighbours}
+
+-- ---- place i of the list
+pub position-at : (lag i : ℕ) → i < neighbours lag → getD (positions lag) i sample ≡ (pos (i / (2 * lag + 1)) -ℤ pos lag, pos (i % (2 * lag + 1)) -ℤ pos lag)
+position-at lag i h = rw (positions-are lag) (getD-tabulate (neighbours lag) (placeAt lag) i sample h)
+
+module _ (lag y x : ℕ) (rows : lag ≤ y) (columns : lag ≤ x) where
+  -- the row and the column of neighbour i, counted from the picture's first
+  row-at : (i : ℕ) → pos y +ℤ placeAt lag i .0 ≡ pos (y - lag + i / side lag)
+  row-at i = offset-add y (i / side lag) lag rows
+
+  column-at : (i : ℕ) → pos x +ℤ placeAt lag i .1 ≡ pos (x - lag + i % side lag)
+  column-at i = offset-add x (i % side lag) lag columns
+
+  -- the Rust's row of noises at a place is the neighbours that the normal equations multiply
+  pub row-is : (f : Picture) → map (λ p. offsetBy f p y x) (positions lag) ≡ tabulate (neighbours lag) (λ i. neighbour f lag i y x)
+  row-is f =
+      rw (positions-are lag, map-tabulate)
+      (tabulate-same (neighbours lag) (λ i. offsetBy f (placeAt lag i) y x) (λ i. neighbour f lag i y x) (λ i l t. f (natAbs (row-at i t)) (natAbs (column-at i t))))
+
+  -- ---- the specification's filter
+  module _ (plus128 : ℕ → ℕ) (grain : ℤ → ℤ → ℤ) where
+    abbrev along : ℕ → List Delta → ℤ
+    along = filtered plus128 grain y x
+
+    filtered-append : (n : ℕ) (ps qs : List Delta) → along n (ps ++ qs) ≡ along n ps +ℤ along (n + length ps) qs
+    unfolding filtered
+    filtered-append n [] qs = sym (+ℤ-idl (along n qs)) ∙ rw (add-zero n)
+    filtered-append n (p ∷ ps) qs =
+        let e : n + 1 + length ps ≡ n + suc (length ps) = omega arith in
+        rw (filtered-append (n + 1) ps qs, e, +ℤ-assoc)
+
+    filtered-table : (m : ℕ) (g : ℕ → Delta) → along 0 (tabulate m g) ≡ sumTo (λ i. coefficientOf (plus128 i) *ℤ grain (pos y +ℤ g i .0) (pos x +ℤ g i .1)) m
+    unfolding filtered sumTo
+    filtered-table zero g = refl
+    filtered-table (suc m) g =
+        filtered-append 0 (tabulate m g) (g m ∷ [])
+        ∙ rw (filtered-table m g, length-tabulate m g, zero-add m, +ℤ-idr)
+
+    pub filter-is : (f : Picture) → ((r q : ℕ) → grain (pos r) (pos q) ≡ f r q)
+        → filtered plus128 grain y x 0 (walk lag) ≡ sumTo (λ i. coefficientOf (plus128 i) *ℤ neighbour f lag i y x) (numPosLuma lag)
+    filter-is f same =
+        ap (along 0) (walk-is lag)
+        ∙ filtered-table (neighbours lag) (placeAt lag)
+        ∙ sum-ext _ _ (neighbours lag) (λ i l. ap (λ (z : ℤ). coefficientOf (plus128 i) *ℤ z) ((λ t. grain (row-at i t) (column-at i t)) ∙ same (y - lag + i / side lag) (x - lag + i % side lag)))
+
+-- ---- how many
+pub luma-number : (lag : ℕ) → length (walk lag) ≡ numPosLuma lag
+luma-number lag = walk-neighbours lag .number
+
+pub luma-most : (lag : ℕ) → lag ≤ 3 → numPosLuma lag ≤ 24
+luma-most lag h = neighbours-le h
+
+-- with the luma tap
+pub chroma-number : (points lag : ℕ) → 0 < points → numPosChroma points lag ≡ length (walk lag) + 1
+chroma-number points lag h = rw (lt-ltb 0 points h, luma-number lag)
+
+pub chroma-most : (points lag : ℕ) → 0 < points → lag ≤ 3 → numPosChroma points lag ≤ 25
+chroma-most points lag h l = rw (lt-ltb 0 points h) (omega (arith, neighbours-le l))

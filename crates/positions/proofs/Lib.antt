@@ -1,0 +1,10 @@
+-- The neighbours of a sample: by number, as the Rust's loops push them and as the specification's walk visits them; that these are document 01's, and that coefficient i belongs to neighbour i.
+mod Offsets
+mod Members
+mod Places
+pub mod Steps
+pub mod Text
+mod Answers
+pub mod Neighbours
+pub mod Filter
+pub mod Range

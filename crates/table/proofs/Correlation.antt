@@ -1,0 +1,14 @@
+-- The worked example, by computation. Assumes nothing.
+use mathlib.Core.Path.{refl}
+use lib.Ieee.{add, sub, mul, div, le, ofInt, ofBits, toSigned}
+use Rattle.table.specs.Cases.{Right}
+use Rattle.frame.specs.Size.{chromaWidth, chromaHeight}
+use Rattle.float.specs.Steps.{quantAr}
+use Rattle.noise.specs.Average.{averageF, quarters}
+use Rattle.noise.specs.Steps.{windowF}
+use Rattle.correlation.specs.Steps.{squaresF, productsF, corr}
+use Rattle.table.specs.Correlation.{figures, cases}
+
+pub cases-right : Right figures cases
+unfolding chromaWidth chromaHeight corr squaresF productsF quantAr averageF quarters windowF add sub mul div le ofInt ofBits toSigned
+cases-right = (refl, tt)

@@ -1,0 +1,28 @@
+-- The worked examples, by computation. Assumes nothing.
+use mathlib.Core.Path.{refl}
+use lib.Ieee.{add, sub, mul, div, le, lt, ofInt, ofBits, toUnsigned}
+use Rattle.table.specs.Cases.{Right}
+use Rattle.frame.specs.Size.{chromaWidth, chromaHeight}
+use Rattle.frame.specs.Questions.{each, low, allLow}
+use Rattle.frame.specs.Calls.{shapeQuestions, lumaQuestions, chromaQuestions, lumaGateRefusal, chromaGateRefusal}
+use Rattle.float.specs.Magnitude.{magnitudeOf}
+use Rattle.float.specs.Root.{root}
+use Rattle.float.specs.Steps.{sigma16Of}
+use Rattle.noise.specs.Steps.{windowF, dotF, lagF}
+use Rattle.profile.specs.Steps.{planeSigma16, planeSquares}
+use Rattle.gate.specs.RowCorrelation.{energyF, rowCorrelation}
+use Rattle.gate.specs.Answers.{lumaAnswer, chromaAnswer}
+use Rattle.gate.specs.Tests.{temporal, lumaRow, lumaFinding, chromaFinding}
+use Rattle.table.specs.Gates.{lumaFound, chromaFound, rowFound, cases, rowCases}
+
+pub row-cases-right : Right rowFound rowCases
+unfolding rowCorrelation energyF windowF lagF add sub mul div le ofInt ofBits
+row-cases-right = (refl, (refl, (refl, tt)))
+
+pub luma-cases-right : Right lumaFound cases
+unfolding lumaAnswer lumaGateRefusal lumaQuestions shapeQuestions each low allLow lumaFinding temporal lumaRow magnitudeOf root planeSigma16 planeSquares sigma16Of windowF dotF add sub mul div le lt ofInt ofBits toUnsigned
+luma-cases-right = (refl, (refl, (refl, (refl, tt))))
+
+pub chroma-cases-right : Right chromaFound cases
+unfolding chromaAnswer chromaGateRefusal chromaQuestions shapeQuestions chromaWidth chromaHeight each low allLow chromaFinding temporal rowCorrelation energyF lagF magnitudeOf root planeSigma16 planeSquares sigma16Of windowF dotF add sub mul div le lt ofInt ofBits toUnsigned
+chroma-cases-right = (refl, (refl, (refl, (refl, tt))))

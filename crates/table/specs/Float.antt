@@ -1,0 +1,70 @@
+-- "Marked * are proved, and make up a table": the rows on sigma16 and on coefficients, with roots and rounded numbers beside them.
+use Prim.Native.Nat.{ℕ}
+use mathlib.Core.Bool.{true, false}
+use mathlib.Core.List.{List, [], _∷_}
+use lib.IntN.{ℤ, pos, negsuc, negℤ}
+use lib.Ieee.{Float, nan, inf, fin, binary64, ofBits}
+use lib.ListN.{replicate}
+use Rattle.table.specs.Cases.{Case, row}
+
+-- m and −m
+abbrev whole : ℕ → Float
+whole m = fin false m (pos 0)
+
+abbrev minus : ℕ → Float
+minus m = fin true m (pos 0)
+
+-- Sigma16 of d, the shifted noise: 4 samples, 1,0,0,0; 1,024 samples, one of 1; 1,025 samples; −1 everywhere; 0 everywhere; 3 and −4, whose mean square is 25 / 2; an empty plane.
+abbrev pub sigmaCases : List (Case (List ℤ) ℕ)
+sigmaCases =
+    row (pos 1 ∷ replicate 3 (pos 0)) 8 ∷
+    row (pos 1 ∷ replicate 1023 (pos 0)) 1 ∷
+    row (pos 1 ∷ replicate 1024 (pos 0)) 0 ∷
+    row (replicate 12 (negℤ (pos 1))) 16 ∷
+    row (replicate 12 (pos 0)) 0 ∷
+    row (pos 3 ∷ negℤ (pos 4) ∷ []) 57 ∷
+    row [] 0 ∷
+    []
+
+-- Coefficients: 0.0078125 is 1 / 2 ^ 7, 1.9921875 is 255 / 2 ^ 7, −2.0078125 is −257 / 2 ^ 7.
+abbrev pub coefficientCases : List (Case Float ℤ)
+coefficientCases =
+    row (fin false 1 (negsuc 6)) (pos 1) ∷
+    row (fin true 1 (negsuc 6)) (negℤ (pos 1)) ∷
+    row (fin false 255 (negsuc 6)) (pos 127) ∷
+    row (fin true 257 (negsuc 6)) (negℤ (pos 128)) ∷
+    row nan (pos 0) ∷
+    row (inf false) (pos 127) ∷
+    row (inf true) (negℤ (pos 128)) ∷
+    []
+
+-- Roots: of 2, of the smallest f64 and of three times that, of the largest, of both zeros, of −1, of NaN and of the infinities.
+abbrev pub rootCases : List (Case Float Float)
+rootCases =
+    row (fin false 1 (pos 1)) (ofBits binary64 0x3ff6_a09e_667f_3bcd) ∷
+    row (fin false 1 (negsuc 1073)) (fin false 1 (negsuc 536)) ∷
+    row (fin false 3 (negsuc 1073)) (ofBits binary64 0x1e6b_b67a_e858_4caa) ∷
+    row (ofBits binary64 0x7fef_ffff_ffff_ffff) (ofBits binary64 0x5fef_ffff_ffff_ffff) ∷
+    row (whole 0) (whole 0) ∷
+    row (minus 0) (minus 0) ∷
+    row (minus 1) nan ∷
+    row nan nan ∷
+    row (inf false) (inf false) ∷
+    row (inf true) nan ∷
+    []
+
+-- Rounded numbers: ±1/2, ±5/2, the f64 below 1/2, −0.3, 2 ^ 52 − 1/2, 2 ^ 52 + 1, −0, NaN and an infinity.
+abbrev pub roundCases : List (Case Float Float)
+roundCases =
+    row (fin false 1 (negsuc 0)) (whole 1) ∷
+    row (fin true 1 (negsuc 0)) (minus 1) ∷
+    row (fin false 5 (negsuc 0)) (whole 3) ∷
+    row (fin true 5 (negsuc 0)) (minus 3) ∷
+    row (ofBits binary64 0x3fdf_ffff_ffff_ffff) (whole 0) ∷
+    row (ofBits binary64 0xbfd3_3333_3333_3333) (minus 0) ∷
+    row (ofBits binary64 0x432f_ffff_ffff_ffff) (fin false 1 (pos 52)) ∷
+    row (ofBits binary64 0x4330_0000_0000_0001) (ofBits binary64 0x4330_0000_0000_0001) ∷
+    row (minus 0) (minus 0) ∷
+    row nan nan ∷
+    row (inf true) (inf true) ∷
+    []

@@ -1,0 +1,149 @@
+-- "Sizes 4,096 and 4,097; sample 255 and 256 at 8 bits; register bits 16 and 17." Refusals worked by hand: also empty planes, an unknown depth and format, a length off by one; and of two faults the first in document 01's order.
+use mathlib.Core.List.{List, [], _∷_, _++_}
+use Prim.Native.Nat.{ℕ, _-_}
+use lib.ListN.{replicate}
+use Rattle.table.specs.Cases.{Case, row}
+use Rattle.frame.specs.Questions.{firstNo, orderKnown, bitsKnown}
+use Rattle.frame.specs.Calls.{planeRefusal, deepPlaneRefusal, frameRefusal, fitRefusal, lumaGateRefusal, chromaGateRefusal, denoiseFrameRefusal}
+use Rattle.frame.specs.declared.Shape.{Shape}
+
+-- ---- lone planes: width, height, the lengths of source and destination
+
+abbrev pub plane : ℕ × ℕ × ℕ × ℕ → ℕ
+plane (w, h, src, dst) = planeRefusal w h src dst
+
+abbrev pub planeCases : List (Case (ℕ × ℕ × ℕ × ℕ) ℕ)
+planeCases =
+    row (4096, 4096, 16777216, 16777216) 0 ∷
+    row (4097, 0, 0, 0) 1 ∷
+    row (0, 4097, 0, 0) 1 ∷
+    row (4097, 1, 0, 0) 1 ∷
+    row (0, 0, 0, 0) 0 ∷
+    row (3, 2, 5, 6) 5 ∷
+    row (3, 2, 6, 7) 5 ∷ []
+
+-- width, height, depth, the samples of the plane and of its copy
+abbrev pub deepPlane : ℕ × ℕ × ℕ × List ℕ × List ℕ → ℕ
+deepPlane (w, h, depth, a, b) = deepPlaneRefusal w h depth a b
+
+abbrev pub deepPlaneCases : List (Case (ℕ × ℕ × ℕ × List ℕ × List ℕ) ℕ)
+deepPlaneCases =
+    row (0, 0, 8, [], []) 0 ∷
+    row (4097, 1, 9, [], []) 1 ∷
+    row (2, 1, 9, [], []) 3 ∷
+    row (2, 1, 8, 256 ∷ [], 0 ∷ 0 ∷ []) 5 ∷
+    row (2, 1, 8, 0 ∷ 0 ∷ [], 0 ∷ 0 ∷ 0 ∷ []) 5 ∷
+    row (2, 1, 8, 0 ∷ 255 ∷ [], 255 ∷ 0 ∷ []) 0 ∷
+    row (2, 1, 8, 0 ∷ 256 ∷ [], 0 ∷ 0 ∷ []) 6 ∷
+    row (2, 1, 8, 0 ∷ 0 ∷ [], 256 ∷ 0 ∷ []) 6 ∷
+    row (1, 1, 10, 1023 ∷ [], 0 ∷ []) 0 ∷
+    row (1, 1, 10, 1024 ∷ [], 0 ∷ []) 6 ∷
+    row (1, 1, 12, 4095 ∷ [], 0 ∷ []) 0 ∷
+    row (1, 1, 12, 4096 ∷ [], 0 ∷ []) 6 ∷ []
+
+-- ---- frames: width, height, depth, format
+
+abbrev pub shape : ℕ → ℕ → ℕ → ℕ → Shape
+shape w h depth format = record { width = w; height = h; depth = depth; format = format }
+
+-- a plane of n zeros, and one with 256 at its end
+abbrev pub flat : ℕ → List ℕ
+flat n = replicate n 0
+
+abbrev pub high : ℕ → List ℕ
+high n = replicate (n - 1) 0 ++ (256 ∷ [])
+
+abbrev pub Planes : Type 0
+Planes = List ℕ × List ℕ × List ℕ
+
+-- a frame and its copy
+abbrev pub frame : Shape × Planes × Planes → ℕ
+frame (s, (y, cb, cr), (y′, cb′, cr′)) = frameRefusal s y cb cr y′ cb′ cr′
+
+abbrev pub frameCases : List (Case (Shape × Planes × Planes) ℕ)
+frameCases =
+    row (shape 4097 1 9 4, ([], [], []), ([], [], [])) 1 ∷
+    row (shape 0 1 9 4, ([], [], []), ([], [], [])) 2 ∷
+    row (shape 1 0 9 4, ([], [], []), ([], [], [])) 2 ∷
+    row (shape 1 1 9 4, ([], [], []), ([], [], [])) 3 ∷
+    row (shape 1 1 8 4, ([], [], []), ([], [], [])) 4 ∷
+    row (shape 3 3 8 0, (flat 9, [], []), (flat 9, [], [])) 0 ∷
+    row (shape 3 3 8 0, (flat 9, flat 1, []), (flat 9, [], [])) 5 ∷
+    row (shape 3 3 8 1, (flat 9, flat 4, flat 4), (flat 9, flat 4, flat 4)) 0 ∷
+    row (shape 3 3 8 2, (flat 9, flat 6, flat 6), (flat 9, flat 6, flat 6)) 0 ∷
+    row (shape 3 3 8 3, (flat 9, flat 9, flat 9), (flat 9, flat 9, flat 9)) 0 ∷
+    row (shape 3 3 8 1, (high 9, flat 4, flat 9), (flat 9, flat 4, flat 4)) 5 ∷
+    row (shape 3 3 8 1, (flat 9, flat 4, flat 4), (flat 9, flat 4, flat 9)) 5 ∷
+    row (shape 3 3 8 1, (flat 9, flat 4, flat 4), (flat 8, flat 4, flat 4)) 5 ∷
+    row (shape 3 3 8 1, (high 9, flat 4, flat 4), (flat 9, flat 4, flat 4)) 6 ∷
+    row (shape 3 3 8 1, (flat 9, high 4, flat 4), (flat 9, flat 4, flat 4)) 6 ∷
+    row (shape 3 3 8 1, (flat 9, flat 4, high 4), (flat 9, flat 4, flat 4)) 6 ∷
+    row (shape 3 3 8 1, (flat 9, flat 4, flat 4), (high 9, flat 4, flat 4)) 6 ∷
+    row (shape 3 3 8 1, (flat 9, flat 4, flat 4), (flat 9, high 4, flat 4)) 6 ∷
+    row (shape 3 3 8 1, (flat 9, flat 4, flat 4), (flat 9, flat 4, high 4)) 6 ∷ []
+
+-- the same with a lag
+abbrev pub fit : Shape × Planes × Planes × ℕ → ℕ
+fit (s, (y, cb, cr), (y′, cb′, cr′), lag) = fitRefusal s y cb cr y′ cb′ cr′ lag
+
+abbrev pub fitCases : List (Case (Shape × Planes × Planes × ℕ) ℕ)
+fitCases =
+    row (shape 1 1 8 0, (flat 1, [], []), (flat 1, [], []), 3) 0 ∷
+    row (shape 1 1 8 0, (flat 1, [], []), (flat 1, [], []), 4) 7 ∷
+    row (shape 1 1 8 0, (flat 1, [], []), (high 1, [], []), 4) 6 ∷ []
+
+-- a frame and the lengths of its destinations
+abbrev pub denoiseFrame : Shape × Planes × (ℕ × ℕ × ℕ) → ℕ
+denoiseFrame (s, (y, cb, cr), (dy, dcb, dcr)) = denoiseFrameRefusal s y cb cr dy dcb dcr
+
+abbrev pub denoiseFrameCases : List (Case (Shape × Planes × (ℕ × ℕ × ℕ)) ℕ)
+denoiseFrameCases =
+    row (shape 3 3 8 1, (flat 9, flat 4, flat 4), (9, 4, 4)) 0 ∷
+    row (shape 3 3 8 1, (flat 9, flat 4, high 4), (9, 4, 4)) 6 ∷
+    row (shape 3 3 8 1, (high 9, flat 4, flat 4), (8, 4, 4)) 5 ∷
+    row (shape 3 3 8 1, (flat 9, flat 4, flat 4), (9, 5, 4)) 5 ∷
+    row (shape 3 3 8 1, (flat 9, flat 4, flat 4), (9, 4, 9)) 5 ∷
+    row (shape 3 3 9 1, (flat 9, flat 4, flat 4), (9, 4, 4)) 3 ∷ []
+
+-- ---- gates: one component of two frames and of their copies
+
+abbrev pub Four : Type 0
+Four = List ℕ × List ℕ × List ℕ × List ℕ
+
+abbrev pub lumaGate : Shape × Four → ℕ
+lumaGate (s, (a, b, c, d)) = lumaGateRefusal s a b c d
+
+abbrev pub lumaGateCases : List (Case (Shape × Four) ℕ)
+lumaGateCases =
+    row (shape 3 3 8 1, (flat 9, flat 9, flat 9, flat 9)) 0 ∷
+    row (shape 3 3 8 4, (flat 9, flat 9, flat 9, flat 9)) 4 ∷
+    row (shape 3 3 8 1, (flat 4, flat 4, flat 4, flat 4)) 5 ∷
+    row (shape 3 3 8 1, (high 9, flat 9, flat 9, flat 9)) 6 ∷
+    row (shape 3 3 8 1, (flat 9, high 9, flat 9, flat 9)) 6 ∷
+    row (shape 3 3 8 1, (flat 9, flat 9, high 9, flat 9)) 6 ∷
+    row (shape 3 3 8 1, (flat 9, flat 9, flat 9, high 9)) 6 ∷
+    row (shape 3 3 8 1, (high 9, flat 9, flat 9, flat 8)) 5 ∷ []
+
+abbrev pub chromaGate : Shape × Four → ℕ
+chromaGate (s, (a, b, c, d)) = chromaGateRefusal s a b c d
+
+abbrev pub chromaGateCases : List (Case (Shape × Four) ℕ)
+chromaGateCases =
+    row (shape 3 3 8 0, ([], [], [], [])) 0 ∷
+    row (shape 3 3 8 1, (flat 4, flat 4, flat 4, flat 4)) 0 ∷
+    row (shape 3 3 8 1, (flat 9, flat 9, flat 9, flat 9)) 5 ∷
+    row (shape 3 3 8 1, (flat 4, flat 4, high 4, flat 4)) 6 ∷ []
+
+-- ---- "Order 0 and 26: 8."; the register's bits
+
+abbrev pub order : ℕ → ℕ
+order n = firstNo (orderKnown n ∷ [])
+
+abbrev pub orderCases : List (Case ℕ ℕ)
+orderCases = row 0 8 ∷ row 1 0 ∷ row 25 0 ∷ row 26 8 ∷ []
+
+abbrev pub bits : ℕ → ℕ
+bits n = firstNo (bitsKnown n ∷ [])
+
+abbrev pub bitsCases : List (Case ℕ ℕ)
+bitsCases = row 16 0 ∷ row 17 9 ∷ []
