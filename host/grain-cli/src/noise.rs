@@ -90,3 +90,64 @@ impl Autocorrelation {
         (energy > 0).then(|| sum as f64 / energy as f64)
     }
 }
+
+#[cfg(test)]
+mod tests {
+    use super::*;
+
+    /// Noise of both signs, up to the largest of 12 bits.
+    fn planes(width: usize, height: usize) -> (Vec<u16>, Vec<u16>) {
+        let source = (0..width * height).map(|at| (at * at * 2654435761 >> 7) as u16 & 4095);
+        let denoised = (0..width * height).map(|at| (at * 40503 >> 3) as u16 & 4095);
+        (source.collect(), denoised.collect())
+    }
+
+    #[test]
+    fn autocorrelation_is_the_sum_over_all_pairs() {
+        for (width, height) in [(1, 1), (5, 3), (13, 7), (40, 20)] {
+            let (source, denoised) = planes(width, height);
+            let noise = noise(&source, &denoised);
+            let found = Autocorrelation::of(&noise, width);
+            let at = |row: isize, column: isize| -> i64 {
+                let inside =
+                    (0..height as isize).contains(&row) && (0..width as isize).contains(&column);
+                if inside {
+                    noise[row as usize * width + column as usize].into()
+                } else {
+                    0
+                }
+            };
+            let energy = noise
+                .iter()
+                .map(|&n| i64::from(n) * i64::from(n))
+                .sum::<i64>();
+            for down in -(REACH as isize)..=REACH as isize {
+                for aside in -(REACH as isize)..=REACH as isize {
+                    let places =
+                        (0..height as isize).flat_map(|r| (0..width as isize).map(move |c| (r, c)));
+                    let sum: i64 = places
+                        .map(|(r, c)| at(r, c) * at(r + down, c + aside))
+                        .sum();
+                    let expected = (energy > 0).then(|| sum as f64 / energy as f64);
+                    assert_eq!(found.at(down, aside), expected);
+                }
+            }
+        }
+    }
+
+    #[test]
+    fn correlation_of_frames() {
+        let flat = [0; 10];
+        let first = [1, 1, 0, 0, 1, 1, 0, 0, 1, 1];
+        let half = [0, 0, 1, 1, 0, 0, 1, 1, 0, 0];
+        assert_eq!(correlation([&first, &flat], [&first, &flat]), Some(1.0));
+        assert_eq!(correlation([&first, &flat], [&flat, &first]), Some(-1.0));
+        assert_eq!(correlation([&first, &flat], [&half, &flat]), Some(0.0));
+        assert_eq!(correlation([&first, &flat], [&flat, &flat]), None);
+        let (source, denoised) = planes(100, 100);
+        assert_eq!(
+            correlation([&source, &denoised], [&source, &denoised]),
+            Some(1.0)
+        );
+    }
+}

@@ -159,12 +159,21 @@ fn profile<const BINS: usize>(found: &grain::Profile<BINS>) -> Value {
     json!({"sigma": found.sigma16 as f64 / 16.0, "bins": bins})
 }
 
+/// What a gate's figures say: by them the library must have answered.
+fn passes(plane: &str, gate: &Value) -> bool {
+    let number = |name: &str| gate[name].as_f64();
+    let least = if plane == "y" { 1.0 } else { 0.5 };
+    number("sigma").unwrap() >= least
+        && number("row_correlation").unwrap().abs() < 0.75
+        && number("frame_correlation").is_some_and(|rho| rho.abs() < 0.4)
+}
+
 /// The report's frame with what only the report has taken out: a gate becomes its sigma and answer, a bin its numbers.
 fn plain(mut frame: Value) -> Value {
     for plane in ["y", "cb", "cr"] {
         let gate = &mut frame["gates"];
         if gate.is_object() && gate[plane].is_object() {
-            assert_eq!(gate[plane]["grain"] == true, gate[plane]["why"].is_null());
+            assert_eq!(gate[plane]["grain"] == true, passes(plane, &gate[plane]));
             gate[plane] = json!([gate[plane]["sigma"], gate[plane]["grain"]]);
         }
         let profile = &mut frame["profile"][plane];
