@@ -97,8 +97,8 @@ mod tests {
 
     /// Noise of both signs, up to the largest of 12 bits.
     fn planes(width: usize, height: usize) -> (Vec<u16>, Vec<u16>) {
-        let source = (0..width * height).map(|at| (at * at * 2654435761 >> 7) as u16 & 4095);
-        let denoised = (0..width * height).map(|at| (at * 40503 >> 3) as u16 & 4095);
+        let source = (0..width * height).map(|at| ((at * at * 2654435761) >> 7) as u16 & 4095);
+        let denoised = (0..width * height).map(|at| ((at * 40503) >> 3) as u16 & 4095);
         (source.collect(), denoised.collect())
     }
 

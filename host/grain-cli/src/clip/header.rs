@@ -60,13 +60,13 @@ impl Header {
             let names = COLOUR_SPACES.map(|(name, ..)| name).join(", ");
             bail!("the header has the colour space C{space}, which isn't read. These are: {names}");
         };
-        for refusal in [
-            (width.max(height) > 4096).then_some(Refusal::SideAbove4096),
-            (width.min(height) < 1).then_some(Refusal::EmptyFrame),
-        ] {
-            if let Some(refusal) = refusal {
-                bail!("the frames are {width}×{height}. {refusal}");
-            }
+        let failed = match (width.min(height), width.max(height)) {
+            (_, 4097..) => Some(Refusal::SideAbove4096),
+            (0, _) => Some(Refusal::EmptyFrame),
+            _ => None,
+        };
+        if let Some(refusal) = failed {
+            bail!("the frames are {width}×{height}. {refusal}");
         }
         Ok(Header {
             line: line.to_vec(),
