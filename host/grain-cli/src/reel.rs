@@ -9,7 +9,7 @@ use std::path::Path;
 use std::sync::{Arc, OnceLock};
 
 /// Bytes of pictures that one round of work may hold.
-const ROUND_BYTES: usize = 512 << 20;
+const ROUND_BYTES: usize = 1 << 30;
 
 /// A frame with its denoised copy, which is made when it is first asked for.
 pub struct Still {

@@ -2,7 +2,7 @@
 
 mod common;
 
-use common::{Planes, clip, folder, said, sample};
+use common::{Planes, clip, folder, run, said, sample};
 use grain::{Format, Refusal, Shape};
 use std::fs;
 
@@ -58,6 +58,11 @@ fn unknown_header() {
         ),
         ("empty", "", "it is empty"),
         (
+            "magic",
+            "YUV4MPEG22 W16 H8 F1:1 C420\n",
+            "not a YUV4MPEG2 clip",
+        ),
+        (
             "space",
             "YUV4MPEG2 W16 H8 F1:1 C411\n",
             "the colour space C411, which isn't read. These are: mono, mono10",
@@ -90,6 +95,26 @@ fn unknown_header() {
             "{words}"
         );
     }
+}
+
+/// Not refused: each frame is taken as one picture, and that is said.
+#[test]
+fn interlaced() {
+    let folder = folder("interlaced");
+    let bytes = clip(&frames(2));
+    let head = bytes.iter().position(|&byte| byte == b'\n').unwrap();
+    let line = String::from_utf8(bytes[..head].to_vec())
+        .unwrap()
+        .replace(" Ip", " It");
+    fs::write(
+        folder.join("clip.y4m"),
+        [line.as_bytes(), &bytes[head..]].concat(),
+    )
+    .unwrap();
+    let run = run(&folder, &["report", "clip.y4m"]);
+    assert!(run.status.success());
+    let said = String::from_utf8(run.stderr).unwrap();
+    assert!(said.contains("clip.y4m is interlaced"), "{said}");
 }
 
 #[test]

@@ -35,7 +35,8 @@ impl Header {
     /// Reads the first line, without its end, of a clip.
     pub fn parse(line: &[u8]) -> Result<Self> {
         let shown = String::from_utf8_lossy(line);
-        let Some(words) = shown.strip_prefix(MAGIC) else {
+        let words = shown.strip_prefix(MAGIC);
+        let Some(words) = words.filter(|words| words.starts_with(' ')) else {
             let start: String = shown.chars().take(16).collect();
             bail!(
                 "not a YUV4MPEG2 clip: it begins with {start:?}, not with {MAGIC:?}. ffmpeg makes one: \
