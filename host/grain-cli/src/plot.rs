@@ -13,8 +13,8 @@ type Area<'a> = DrawingArea<SVGBackend<'a>, Shift>;
 const SIZE: (u32, u32) = (960, 736);
 /// Height of the profile's part.
 const PROFILE: u32 = 430;
-/// Width of the scale beside the autocorrelations.
-const SCALE: u32 = 90;
+/// Width of one autocorrelation; their scale has what is left.
+const MAP: u32 = 290;
 const FONT: &str = "sans-serif";
 
 /// The picture as SVG.
@@ -25,8 +25,9 @@ pub fn svg(clip: &ClipFigures, noise: &Planes<Autocorrelation>) -> Result<String
         root.fill(&WHITE)?;
         let (upper, lower) = root.split_vertically(PROFILE);
         profiles(clip, &upper)?;
-        let (lower, scale) = lower.split_horizontally(SIZE.0 - SCALE);
-        for (area, (name, noise)) in lower.split_evenly((1, 3)).iter().zip(noise.named()) {
+        let planes: Vec<_> = noise.named().collect();
+        let (maps, scale) = lower.split_horizontally(MAP * planes.len() as u32);
+        for (area, (name, noise)) in maps.split_evenly((1, planes.len())).iter().zip(planes) {
             autocorrelation(name, noise, area)?;
         }
         legend(&scale)?;
@@ -42,10 +43,10 @@ fn profiles(clip: &ClipFigures, area: &Area) -> Result<()> {
         .iter()
         .flat_map(|(_, plane)| plane.bins.iter().map(|bin| bin.sigma));
     let top = sigmas.fold(1.0, f64::max) * 1.4;
-    let title = format!(
-        "{}: noise by intensity ({}×{}, {} bits, {})",
-        clip.name, clip.width, clip.height, clip.depth, clip.format
-    );
+    let copy = clip.denoised.as_deref().map_or("its denoised copy", file);
+    let (name, w, h) = (file(&clip.name), clip.width, clip.height);
+    let (depth, format) = (clip.depth, clip.format);
+    let title = format!("{name} less {copy}, {w}×{h}, {depth} bits, {format}: noise by intensity");
     let edges = (0..=256).step_by(32).collect();
     let mut chart = ChartBuilder::on(area)
         .caption(title, (FONT, 20))
@@ -82,6 +83,11 @@ fn profiles(clip: &ClipFigures, area: &Area) -> Result<()> {
         .background_style(WHITE.mix(0.9))
         .draw()?;
     Ok(())
+}
+
+/// A clip's name without its folders.
+fn file(name: &str) -> &str {
+    name.rsplit('/').next().unwrap_or(name)
 }
 
 /// The corners of a plane's profile, bin after bin, without bins that have no samples.
