@@ -1,14 +1,14 @@
 // "Sizes 4,096 and 4,097; sample 255 and 256 at 8 bits; register bits 16 and 17." "Order 0 and 26: 8. Pivot 1e-9 passes."
-use crate::say::number;
+use crate::casts::wide;
+use crate::casts::yes;
 use crate::say::say;
 use random::Draw;
-use random::RandomRegister;
 
 // What the row correlation of one sample refuses with; 1000 where it does not.
 fn sample_number(sample: u16) -> u64 {
     let y = [sample];
     match gate::lag_h_rho(&y, &y, 1, 1, 1, 8) {
-        gate::Rho::Refused(n) => number(n),
+        gate::Rho::Refused(n) => wide(n),
         gate::Rho::Value(_) => 1000,
     }
 }
@@ -17,22 +17,22 @@ fn sample_number(sample: u16) -> u64 {
 fn width_number(width: usize) -> u64 {
     let y = [0u16; 1];
     let mut d = [0u16; 1];
-    number(denoise::denoise_plane(&y[..0], &mut d[..0], width, 0))
+    wide(denoise::denoise_plane(&y[..0], &mut d[..0], width, 0))
 }
 
 fn bits_number(bits: u32) -> u64 {
-    let s = RandomRegister::new(1).stepped(bits);
+    let s = random::draw_from(1, bits);
     let draw = s.draw;
     match draw {
-        Draw::Refused(n) => number(n),
-        Draw::Value(v) => number(v),
+        Draw::Refused(n) => wide(n),
+        Draw::Value(v) => wide(v),
     }
 }
 
 fn order_number(order: usize) -> u64 {
     let a = [[0.0f64; 25]; 25];
     let b = [0.0f64; 25];
-    number(solve::solve_normal(a, b, order).refusal)
+    wide(solve::solve_normal(a, b, order).refusal)
 }
 
 // Whether a single equation with this pivot has a solution.
@@ -40,11 +40,7 @@ fn pivot_passes(pivot: f64) -> u64 {
     let mut a = [[0.0f64; 25]; 25];
     let b = [1.0f64; 25];
     a[0][0] = pivot;
-    if solve::solve_normal(a, b, 1).found {
-        1
-    } else {
-        0
-    }
+    yes(solve::solve_normal(a, b, 1).found)
 }
 
 pub fn run() {

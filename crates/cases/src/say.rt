@@ -7,7 +7,3 @@ pub fn say(name: &[u8], value: u64) {
     io::print_decimal(STDOUT_FILENO, value);
     io::write_all(STDOUT_FILENO, b"\n");
 }
-
-pub fn number(n: u32) -> u64 {
-    n as u64
-}

@@ -8,10 +8,11 @@ use Rattle.frame.specs.Questions.{accepted, lumaSamples, chromaSamples}
 use Rattle.frame.specs.Calls.{frameRefusal}
 use Rattle.frame.specs.declared.Shape.{Shape}
 use Rattle.frame.proofs.Facts.{Known, Plane}
+use Rattle.noise.specs.Products.{pair}
 use Rattle.noise.specs.Quarters.{luma}
 use Rattle.noise.specs.AverageSums.{Component}
 use Rattle.noise.proofs.Accepted.{plane-of}
-use Rattle.correlation.specs.Steps.{pair, corr}
+use Rattle.correlation.specs.Steps.{corr}
 use Rattle.correlation.specs.Answer.{corrAnswer}
 use Rattle.correlation.specs.declared.ChromaCorr.{ChromaCorr}
 

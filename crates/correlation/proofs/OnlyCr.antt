@@ -7,8 +7,9 @@ use Rattle.frame.specs.Size.{chromaWidth, chromaHeight}
 use Rattle.frame.specs.Calls.{frameRefusal}
 use Rattle.frame.specs.declared.Shape.{Shape}
 use Rattle.frame.proofs.Refusal.{granted}
+use Rattle.noise.specs.Products.{pair}
 use Rattle.noise.specs.Quarters.{luma}
-use Rattle.correlation.specs.Steps.{pair, corr}
+use Rattle.correlation.specs.Steps.{corr}
 use Rattle.correlation.specs.Answer.{corrAnswer}
 
 module _ (s : Shape) (y cb dy dcb : List ℕ) where

@@ -6,8 +6,9 @@ use Rattle.frame.specs.Size.{chromaWidth, chromaHeight}
 use Rattle.frame.specs.Questions.{accepted}
 use Rattle.frame.specs.Calls.{frameRefusal}
 use Rattle.frame.specs.declared.Shape.{Shape}
+use Rattle.noise.specs.Products.{pair}
 use Rattle.noise.specs.Quarters.{luma}
-use Rattle.correlation.specs.Steps.{pair, corr}
+use Rattle.correlation.specs.Steps.{corr}
 use Rattle.correlation.specs.declared.ChromaCorr.{ChromaCorr}
 
 unfoldable pub corrAnswer : Shape → List ℕ → List ℕ → List ℕ → List ℕ → List ℕ → List ℕ → ChromaCorr

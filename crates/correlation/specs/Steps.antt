@@ -1,8 +1,6 @@
 -- "Sum of luma average × chroma noise over sum of squared averages, quantised; 0 if the latter is at most 1e-9."
 -- The closure `corr` of `fit_chroma_corr`: rows and columns in order, each sum from 0.0.
 use mathlib.Core.Bool.{cond}
-use mathlib.Core.List.{List}
-use Prim.Native.Nat.{ℕ}
 use lib.Dec.{eqb}
 use lib.IntN.{ℤ, pos}
 use lib.ListN.{length}
@@ -11,10 +9,6 @@ use Rattle.float.specs.Steps.{quantAr}
 use Rattle.noise.specs.Average.{Luma}
 use Rattle.noise.specs.Products.{Pair, own, average}
 use Rattle.noise.specs.Steps.{windowF}
-
--- a plane w wide and h high, and its denoised copy
-abbrev pub pair : List ℕ → List ℕ → ℕ → ℕ → Pair
-pair source denoised w h = record { source = source; denoised = denoised; width = w; height = h }
 
 -- 1e-9
 abbrev pub tiny : Float

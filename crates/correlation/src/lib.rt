@@ -1,43 +1,30 @@
 // The correlation of a chroma plane's noise with luma's, as a coefficient.
 use frame::Shape;
 ghost use mathlib.Core.Path.{_≡_};
-ghost use Rattle.noise.specs.Quarters.{luma};
-ghost use Rattle.noise.specs.AverageSums.{Component};
-ghost use Rattle.correlation.specs.Steps.{pair, corr};
+ghost use Prim.Native.Nat.{_^_, _≤_};
+ghost use lib.IntN.{natAbs};
+ghost use Rattle.correlation.specs.Exact.{tapOf};
 ghost use Rattle.correlation.specs.Answer.{corrAnswer};
 
 // The luma tap of each chroma plane, at lag 0.
+#[repr(C)]
 pub struct ChromaCorr {
     pub refusal: u32,
     pub cb: i32,
     pub cr: i32,
 }
 
-// Σ average × noise / Σ average², quantised: the averages of luma's noise at each chroma place. The sums are exact; quarters and sixteenths become f64 once.
-fn tap(
-    src: &[u16],
-    den: &[u16],
-    w: usize,
-    h: usize,
-    format: u8,
-    csrc: &[u16],
-    cden: &[u16],
-    cw: usize,
-    ch: usize,
-) -> i32
-    requires { ⌜ Component (luma (now src) (now den) w h format) (now csrc) (now cden) cw ch ⌝ }
-    ensures { λ r. ⌜ r ≡ corr (luma (now (src .entry)) (now (den .entry)) w h format) (pair (now (csrc .entry)) (now (cden .entry)) cw ch) ⌝ }
+// Σ average × noise / Σ average², quantised: from the exact sums in quarters and in sixteenths, each turned into an f64 once.
+fn tap(products: i64, squares: i64) -> i32
+    requires { ⌜ (natAbs products ≤ 2 ^ 53) × (natAbs squares ≤ 2 ^ 53) ⌝ }
+    ensures { λ r. ⌜ r ≡ tapOf products squares ⌝ }
 {
-    if csrc.len() == 0 {
+    let energy = std::num::nearest_i64_to_f64(squares) / 16.0;
+    if energy <= 1e-9 {
         return 0;
     }
-    let sums = noise::average_products(src, den, w, h, format, csrc, cden, cw, ch);
-    let squares = std::num::nearest_i64_to_f64(sums.squares) / 16.0;
-    if squares <= 1e-9 {
-        return 0;
-    }
-    let products = std::num::nearest_i64_to_f64(sums.products) / 4.0;
-    float::quant_ar(products / squares)
+    let cross = std::num::nearest_i64_to_f64(products) / 4.0;
+    float::quant_ar(cross / energy)
 }
 
 // The luma taps of Cb and Cr at lag 0, where there are no luma coefficients.
@@ -62,11 +49,22 @@ pub fn fit_chroma_corr(
     }
     let cw = s.chroma_width();
     let ch = s.chroma_height();
-    let blue = tap(y, dy, s.width, s.height, s.format, cb, dcb, cw, ch);
-    let red = tap(y, dy, s.width, s.height, s.format, cr, dcr, cw, ch);
+    let sums = noise::average_products(
+        y,
+        dy,
+        s.width,
+        s.height,
+        s.format,
+        cb,
+        dcb,
+        cr,
+        dcr,
+        cw,
+        ch,
+    );
     ChromaCorr {
         refusal: 0,
-        cb: blue,
-        cr: red,
+        cb: tap(sums.cb, sums.squares),
+        cr: tap(sums.cr, sums.squares),
     }
 }

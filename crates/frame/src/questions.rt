@@ -62,12 +62,19 @@ pub fn four_are(n: usize, a: usize, b: usize, c: usize, d: usize) -> bool
     (a == n) & ((b == n) & both_are(n, c, d))
 }
 
-// Every sample is below 2^depth: no sample has a bit at `depth` or above, so neither has the or of them all.
+// Every sample is below 2^depth: no sample has a bit at `depth` or above, so neither has the or of them all. Four quarters are read at once, which memory delivers faster than one run.
 pub fn samples_low(plane: &[u16], depth: u8) -> bool
     ensures { λ r. ⌜ r ≡ low depth (now (plane .entry)) ⌝ }
 {
+    let quarter = plane.len() / 4;
     let mut bits: u16 = 0;
-    for i in 0..plane.len() {
+    for i in 0..quarter {
+        bits |= plane[i];
+        bits |= plane[quarter + i];
+        bits |= plane[2 * quarter + i];
+        bits |= plane[3 * quarter + i];
+    }
+    for i in 4 * quarter..plane.len() {
         bits |= plane[i];
     }
     if 16 <= depth {

@@ -7,15 +7,11 @@ use lib.Ieee.{Float}
 use Rattle.frame.specs.Size.{chromaWidth, chromaHeight}
 use Rattle.frame.specs.Calls.{deepPlaneRefusal, lumaGateRefusal, chromaGateRefusal}
 use Rattle.frame.specs.declared.Shape.{Shape}
-use Rattle.frame.proofs.Refusal.{granted}
 use Rattle.profile.specs.Steps.{planeSigma16}
-use Rattle.profile.specs.Answers.{sigmaAnswer}
-use Rattle.profile.specs.declared.Sigma.{Sigma}
 use Rattle.noise.specs.Products.{pair}
 use Rattle.gate.specs.RowCorrelation.{rowCorrelation}
 use Rattle.gate.specs.Answers.{rho, rhoAnswer, gate, lumaAnswer, chromaAnswer}
 use Rattle.gate.specs.Tests.{lumaFinding, chromaFinding, isPassed}
-use Rattle.gate.proofs.Accepted.{first-plane}
 use Rattle.gate.specs.declared.tests.Finding.{Finding}
 use Rattle.gate.specs.declared.Gate.{Gate}
 use Rattle.gate.specs.declared.Rho.the-variants.{Refused, Value}
@@ -40,23 +36,15 @@ gate-refused : (n : ℕ) (b : Bool) → (n ≡ 0 → ⊥) → made n false ≡ g
 gate-refused zero b h = absurd (h refl)
 gate-refused (suc n) b h = refl
 
--- where the luma gate is accepted, so is the sigma16 of its first plane
-first-sigma16 : (s : Shape) (y₀ d₀ y₁ d₁ : List ℕ) → lumaGateRefusal s y₀ d₀ y₁ d₁ ≡ 0 → sigmaAnswer (s .width) (s .height) (s .depth) y₀ d₀ .sigma16 ≡ planeSigma16 (s .depth - 8) y₀ d₀
-unfolding sigmaAnswer
-first-sigma16 s y₀ d₀ y₁ d₁ e = granted (deepPlaneRefusal (s .width) (s .height) (s .depth) y₀ d₀) _ 0 (first-plane s y₀ d₀ y₁ d₁ e)
-
 module _ (s : Shape) (y₀ d₀ y₁ d₁ : List ℕ) (n : ℕ) (asked : n ≡ lumaGateRefusal s y₀ d₀ y₁ d₁) where
   pub luma-refused : (n ≡ 0 → ⊥) → made n false ≡ lumaAnswer s y₀ d₀ y₁ d₁
   unfolding lumaAnswer
   luma-refused z = rw (← asked) (gate-refused n _ z)
 
-  pub luma-answered : (sigma : Sigma) (f : Finding) (b : Bool) → n ≡ 0 → sigma ≡ sigmaAnswer (s .width) (s .height) (s .depth) y₀ d₀
-      → f ≡ lumaFinding (sigma .sigma16) (pair y₀ d₀ (s .width) (s .height)) (pair y₁ d₁ (s .width) (s .height)) → b ≡ isPassed f → made 0 b ≡ lumaAnswer s y₀ d₀ y₁ d₁
+  pub luma-answered : (f : Finding) (b : Bool) → n ≡ 0 → f ≡ lumaFinding (planeSigma16 (s .depth - 8) y₀ d₀) (pair y₀ d₀ (s .width) (s .height)) (pair y₁ d₁ (s .width) (s .height))
+      → b ≡ isPassed f → made 0 b ≡ lumaAnswer s y₀ d₀ y₁ d₁
   unfolding lumaAnswer
-  luma-answered sigma f b z x found e = rw (← asked, z, ← sigma16-is sigma x, ← found, e)
-    where
-      sigma16-is : (sigma : Sigma) → sigma ≡ sigmaAnswer (s .width) (s .height) (s .depth) y₀ d₀ → sigma .sigma16 ≡ planeSigma16 (s .depth - 8) y₀ d₀
-      sigma16-is sigma x = ap (λ (t : Sigma). t .sigma16) x ∙ first-sigma16 s y₀ d₀ y₁ d₁ (sym asked ∙ z)
+  luma-answered f b z found e = rw (← asked, z, ← found, e)
 
 module _ (s : Shape) (c₀ d₀ c₁ d₁ : List ℕ) (sigma16 n : ℕ) (asked : n ≡ chromaGateRefusal s c₀ d₀ c₁ d₁) where
   pub chroma-refused : (n ≡ 0 → ⊥) → made n false ≡ chromaAnswer s c₀ d₀ c₁ d₁ sigma16

@@ -1,6 +1,6 @@
 -- The row correlation, from the tests that its code makes: one law for each way through. Assumes nothing.
-use mathlib.Core.Path.{_≡_, refl, _∙_, ap}
-use mathlib.Core.Bool.{Bool, true, false, cond}
+use mathlib.Core.Path.{_≡_, refl, _∙_}
+use mathlib.Core.Bool.{true, false}
 use Prim.Native.Nat.{ℕ, _<_, _≤_}
 use lib.Ieee.{Float, binary64, div, le}
 use borrow.Author.Tests.{le-leb, lt-leb, eq-eqb, ne-eqb}
@@ -8,35 +8,42 @@ use Rattle.laws.specs.Scaled.{plusZero}
 use Rattle.noise.specs.Products.{Pair}
 use Rattle.noise.specs.Steps.{dotF, lagF}
 use Rattle.noise.proofs.Steps.{dot-window}
-use Rattle.gate.specs.RowCorrelation.{energyF, rowCorrelation}
+use Rattle.gate.specs.RowCorrelation.{energyF, correlationOf, rowCorrelation}
 
-module _ (p : Pair) (lag : ℕ) where
-  pub no-lag : lag ≡ 0 → plusZero ≡ rowCorrelation p lag
-  unfolding rowCorrelation
+-- ---- from the sums
+module _ (w h lag : ℕ) (e s : Float) where
+  pub no-lag : lag ≡ 0 → plusZero ≡ correlationOf w h lag e s
   no-lag z = rw (eq-eqb lag 0 z)
 
   module _ (some : lag ≡ 0 → ⊥) where
-    pub too-narrow : p .width ≤ lag → plusZero ≡ rowCorrelation p lag
-    unfolding rowCorrelation
-    too-narrow n = rw (ne-eqb lag 0 some, le-leb (p .width) lag n)
+    pub too-narrow : w ≤ lag → plusZero ≡ correlationOf w h lag e s
+    too-narrow n = rw (ne-eqb lag 0 some, le-leb w lag n)
 
-    module _ (wide : lag < p .width) where
-      pub no-rows : p .height ≡ 0 → plusZero ≡ rowCorrelation p lag
-      unfolding rowCorrelation
-      no-rows z = rw (ne-eqb lag 0 some, lt-leb (p .width) lag wide, eq-eqb (p .height) 0 z)
+    module _ (wide : lag < w) where
+      pub no-rows : h ≡ 0 → plusZero ≡ correlationOf w h lag e s
+      no-rows z = rw (ne-eqb lag 0 some, lt-leb w lag wide, eq-eqb h 0 z)
 
-      module _ (rows : p .height ≡ 0 → ⊥) (e : Float) (is : e ≡ dotF p p) where
-        energy : e ≡ energyF p
-        unfolding energyF
-        energy = is ∙ dot-window p p refl refl
+      module _ (rows : h ≡ 0 → ⊥) where
+        pub no-energy : le e plusZero ≡ true → plusZero ≡ correlationOf w h lag e s
+        no-energy t = rw (ne-eqb lag 0 some, lt-leb w lag wide, ne-eqb h 0 rows, t)
 
-        divided : (b : Bool) → le e plusZero ≡ b → cond b plusZero (div binary64 (lagF p lag) e) ≡ rowCorrelation p lag
-        unfolding rowCorrelation
-        divided b t =
-            rw (ne-eqb lag 0 some, lt-leb (p .width) lag wide, ne-eqb (p .height) 0 rows, ← energy, t)
+        pub divided : le e plusZero ≡ false → div binary64 s e ≡ correlationOf w h lag e s
+        divided t = rw (ne-eqb lag 0 some, lt-leb w lag wide, ne-eqb h 0 rows, t)
 
-        pub no-energy : le e plusZero ≡ true → plusZero ≡ rowCorrelation p lag
-        no-energy t = divided true t
+-- ---- of a plane
+module _ (p : Pair) (lag : ℕ) where
+  pub unlagged : lag ≡ 0 → plusZero ≡ rowCorrelation p lag
+  unfolding rowCorrelation
+  unlagged z = no-lag (p .width) (p .height) lag (energyF p) (lagF p lag) z
 
-        pub quotient : (s : Float) → s ≡ lagF p lag → le e plusZero ≡ false → div binary64 s e ≡ rowCorrelation p lag
-        quotient s q t = ap (λ (x : Float). div binary64 x e) q ∙ divided false t
+  pub narrow : (lag ≡ 0 → ⊥) → p .width ≤ lag → plusZero ≡ rowCorrelation p lag
+  unfolding rowCorrelation
+  narrow some n = too-narrow (p .width) (p .height) lag (energyF p) (lagF p lag) some n
+
+  energy : {e : Float} → e ≡ dotF p p → e ≡ energyF p
+  unfolding energyF
+  energy is = is ∙ dot-window p p refl refl
+
+  pub row-is : {e s r : Float} → e ≡ dotF p p → s ≡ lagF p lag → r ≡ correlationOf (p .width) (p .height) lag e s → r ≡ rowCorrelation p lag
+  unfolding rowCorrelation
+  row-is x y z = z ∙ (λ i. correlationOf (p .width) (p .height) lag (energy x i) (y i))

@@ -12,7 +12,11 @@ use Rattle.noise.specs.Steps.{windowF, lagF}
 unfoldable pub energyF : Pair → Float
 energyF p = windowF (own p) (own p) 0 (p .height) 0 (p .width)
 
+-- of a plane w wide and h high, from its energy and the sum of products
+abbrev pub correlationOf : ℕ → ℕ → ℕ → Float → Float → Float
+correlationOf w h lag energy lagged =
+    cond (eqb lag 0 || (leb w lag || eqb h 0)) plusZero
+    (cond (le energy plusZero) plusZero (div binary64 lagged energy))
+
 unfoldable pub rowCorrelation : Pair → ℕ → Float
-rowCorrelation p lag =
-    cond (eqb lag 0 || (leb (p .width) lag || eqb (p .height) 0)) plusZero
-    (cond (le (energyF p) plusZero) plusZero (div binary64 (lagF p lag) (energyF p)))
+rowCorrelation p lag = correlationOf (p .width) (p .height) lag (energyF p) (lagF p lag)

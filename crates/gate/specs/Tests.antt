@@ -25,6 +25,10 @@ timeBound = ofBits binary64 0x3fd9_9999_9999_999a
 unfoldable pub temporal : Pair → Pair → Finding
 temporal p q = cond (lt (magnitudeOf (div binary64 (dotF p q) (root (mul binary64 (dotF p p) (dotF q q))))) timeBound) Passed TimeCorrelated
 
+-- the second's energy 0, then the test
+abbrev pub secondFinding : Pair → Pair → Finding
+secondFinding p q = cond (le (dotF q q) plusZero) NoEnergySecond (temporal p q)
+
 -- `lag / e0` of `film_grain_probe`: rows 0..h and columns 0..w - 1
 unfoldable pub lumaRow : Pair → Float
 lumaRow p = div binary64 (windowF (own p) (onward p 1) 0 (p .height) 0 (p .width - 1)) (dotF p p)
@@ -35,8 +39,7 @@ lumaFinding sigma16 p q =
     cond (ltb sigma16 16) LowSigma
     (cond (le (dotF p p) plusZero) NoEnergyFirst
     (cond (le rowBound (magnitudeOf (lumaRow p))) RowCorrelated
-    (cond (le (dotF q q) plusZero) NoEnergySecond
-    (temporal p q))))
+    (secondFinding p q)))
 
 -- the chroma gate
 unfoldable pub chromaFinding : ℕ → Pair → Pair → Finding
@@ -45,8 +48,7 @@ chromaFinding sigma16 p q =
     (cond (eqb (p .width * p .height) 0) EmptyPlane
     (cond (le rowBound (magnitudeOf (rowCorrelation p 1))) RowCorrelated
     (cond (le (dotF p p) plusZero) NoEnergyFirst
-    (cond (le (dotF q q) plusZero) NoEnergySecond
-    (temporal p q)))))
+    (secondFinding p q))))
 
 -- yes
 abbrev pub isPassed : Finding → Bool

@@ -1,10 +1,29 @@
-// The correlations of noise along a row and between two frames.
+// The correlation of noise along a row.
 use crate::sums;
 ghost use mathlib.Core.Path.{_≡_};
 ghost use Prim.Native.Nat.{_≤_};
 ghost use Rattle.noise.specs.Lines.{Plane};
 ghost use Rattle.noise.specs.Products.{pair};
-ghost use Rattle.gate.specs.RowCorrelation.{rowCorrelation};
+ghost use Rattle.gate.specs.RowCorrelation.{correlationOf, rowCorrelation};
+
+// The quotient of the two sums; 0.0 where there is nothing to divide.
+pub fn correlation_of(w: usize, h: usize, lag: usize, energy: f64, lagged: f64) -> f64
+    ensures { λ r. ⌜ r ≡ correlationOf w h lag energy lagged ⌝ }
+{
+    if lag == 0 {
+        return 0.0;
+    }
+    if w <= lag {
+        return 0.0;
+    }
+    if h == 0 {
+        return 0.0;
+    }
+    if energy <= 0.0 {
+        return 0.0;
+    }
+    lagged / energy
+}
 
 // Σ n(r, c) × n(r, c + lag) / Σ n(r, c)².
 pub fn row_correlation(src: &[u16], den: &[u16], w: usize, h: usize, lag: usize) -> f64
@@ -17,12 +36,6 @@ pub fn row_correlation(src: &[u16], den: &[u16], w: usize, h: usize, lag: usize)
     if w <= lag {
         return 0.0;
     }
-    if h == 0 {
-        return 0.0;
-    }
-    let energy = sums::dot(src, den, src, den, w, h);
-    if energy <= 0.0 {
-        return 0.0;
-    }
-    sums::lagged(src, den, w, h, lag) / energy
+    let sums = sums::of_plane(src, den, w, h, lag, 0);
+    correlation_of(w, h, lag, sums.energy, sums.lagged)
 }

@@ -14,6 +14,7 @@ pub enum Rho {
 }
 
 // What a gate answers.
+#[repr(C)]
 pub struct Gate {
     pub refusal: u32,
     pub yes: bool,
@@ -48,8 +49,8 @@ pub fn film_grain_probe(s: Shape, y0: &[u16], d0: &[u16], y1: &[u16], d1: &[u16]
             yes: false,
         };
     }
-    let first = profile::plane_sigma16(y0, d0, s.width, s.height, s.depth);
-    let found = tests::luma_finding(first.sigma16, y0, d0, y1, d1, s.width, s.height);
+    let shift = (s.depth - 8) as u32;
+    let found = tests::luma_finding(y0, d0, y1, d1, s.width, s.height, shift);
     Gate {
         refusal: 0,
         yes: tests::is_passed(found),

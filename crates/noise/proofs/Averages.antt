@@ -1,4 +1,4 @@
--- The luma average at a chroma place: its four, two or one noises, as the definition adds them, are the pairs of two lines of luma noise; and four times it is at most 16,380 in size. By the two cases of each direction. Assumes nothing.
+-- The luma average at a chroma place: its four, two or one noises, as the definition adds them, are the sums of two lines of luma noise; and four times it is at most 16,380 in size. By the two cases of each direction. Assumes nothing.
 use mathlib.Core.Path.{_≡_, refl, sym, ap, _∙_}
 use mathlib.Core.Bool.{Bool, true, false, cond}
 use mathlib.Core.List.{List}
@@ -15,10 +15,11 @@ use Rattle.laws.proofs.Whole.{abs-mul-le, mul-sum, sum-mul}
 use Rattle.laws.proofs.Sums.{sum-ext, sum-add, sum-bound}
 use Rattle.noise.specs.Noise.{noise, place}
 use Rattle.noise.specs.Average.{Luma, subX, subY, lumaPlace, quarters}
-use Rattle.noise.specs.Lines.{at, Plane}
-use Rattle.noise.specs.Quarters.{quartered, columns, Pairs}
+use Rattle.noise.specs.Lines.{at, Within, Plane}
+use Rattle.noise.specs.Quarters.{quartered, columns}
 use Rattle.noise.proofs.Grids.{plane-noise-le}
 use Rattle.noise.proofs.LineSums.{entry, size}
+use Rattle.noise.proofs.Quarters.{abs-add-le}
 
 -- ---- a direction is halved or not
 abbrev bit : Bool → ℕ
@@ -72,17 +73,16 @@ module _ (N : ℕ → ℕ → ℤ) where
     four-le false false = le-trans (total-le false false) (lit≤ tt)
 
 -- ---- of a frame
--- the lines of the luma rows of chroma row r
-pub record LumaLines (l : Luma) (r : ℕ) (top bottom : List ℤ) : Type 0 where
+-- the luma rows of chroma row r, and the sums of their noise
+pub record RowsOf (l : Luma) (r : ℕ) (sums : List ℤ) : Type 0 where
   pub upper : ℕ
   pub lower : ℕ
   pub upper-is : upper ≡ min (r * 2 ^ subY (l .format) + 0) (l .height - 1)
   pub lower-is : lower ≡ min (r * 2 ^ subY (l .format) + subY (l .format)) (l .height - 1)
-  pub top-is : top ≡ tabulate (l .width) (λ x. noise (l .source) (l .denoised) (place (l .width) upper x))
-  pub bottom-is : bottom ≡ tabulate (l .width) (λ x. noise (l .source) (l .denoised) (place (l .width) lower x))
+  pub sums-are : sums ≡ tabulate (l .width) (λ x. noise (l .source) (l .denoised) (place (l .width) upper x) +ℤ noise (l .source) (l .denoised) (place (l .width) lower x))
 
 module _ (l : Luma) (P : Plane (l .width) (l .height) (l .source) (l .denoised)) (r : ℕ) (in-rows : r * 2 ^ subY (l .format) < l .height) where
-  in-height : (m : ℕ) → min m (l .height - 1) < l .height
+  pub in-height : (m : ℕ) → min m (l .height - 1) < l .height
   in-height m = lt-of-le-of-lt (min-le-right m (l .height - 1)) (omega arith)
 
   in-width : (c m : ℕ) → c < columns (subX (l .format)) (l .width) → min m (l .width - 1) < l .width
@@ -93,43 +93,36 @@ module _ (l : Luma) (P : Plane (l .width) (l .height) (l .source) (l .denoised))
   quarters-le c k =
       four-le (λ i j. noise (l .source) (l .denoised) (lumaPlace l r c i j)) (λ i j. plane-noise-le P _ _ (in-height _) (in-width c _ k)) (leb (l .format) 2) (leb (l .format) 1)
 
-  module _ {top bottom : List ℤ} (T : LumaLines l r top bottom) where
-    wide : length top ≡ l .width
-    wide = size (l .width) _ (T .top-is)
+  module _ {sums : List ℤ} (T : RowsOf l r sums) where
+    abbrev noiseAt : ℕ → ℕ → ℤ
+    noiseAt y x = noise (l .source) (l .denoised) (place (l .width) y x)
 
-    cell : (line : List ℤ) (y i c j : ℕ) → y ≡ min (r * 2 ^ subY (l .format) + i) (l .height - 1)
-        → line ≡ tabulate (l .width) (λ x. noise (l .source) (l .denoised) (place (l .width) y x))
-        → c < columns (subX (l .format)) (l .width) → at line (min (c * 2 ^ subX (l .format) + j) (length top - 1)) ≡ noise (l .source) (l .denoised) (lumaPlace l r c i j)
-    cell line y i c j f g k =
-        ap (λ (n : ℕ). at line (min (c * 2 ^ subX (l .format) + j) (n - 1))) wide
-        ∙ entry (l .width) _ g _ (in-width c _ k)
-        ∙ ap (λ (n : ℕ). noise (l .source) (l .denoised) (place (l .width) n (min (c * 2 ^ subX (l .format) + j) (l .width - 1)))) f
+    wide : length sums ≡ l .width
+    wide = size (l .width) _ (T .sums-are)
 
-    quarters-are : (c : ℕ) → c < columns (subX (l .format)) (l .width) → quartered (subX (l .format)) top bottom c ≡ quarters l r c
+    cell : (c j : ℕ) → c < columns (subX (l .format)) (l .width)
+        → at sums (min (c * 2 ^ subX (l .format) + j) (length sums - 1)) ≡ noise (l .source) (l .denoised) (lumaPlace l r c 0 j) +ℤ noise (l .source) (l .denoised) (lumaPlace l r c (subY (l .format)) j)
+    cell c j k =
+        ap (λ (n : ℕ). at sums (min (c * 2 ^ subX (l .format) + j) (n - 1))) wide
+        ∙ entry (l .width) _ (T .sums-are) _ (in-width c _ k)
+        ∙ (λ i. noiseAt (T .upper-is i) (min (c * 2 ^ subX (l .format) + j) (l .width - 1)) +ℤ noiseAt (T .lower-is i) (min (c * 2 ^ subX (l .format) + j) (l .width - 1)))
+
+    quarters-are : (c : ℕ) → c < columns (subX (l .format)) (l .width) → quartered (subX (l .format)) sums c ≡ quarters l r c
     unfolding quartered quarters
     quarters-are c k =
-        ap (λ (z : ℤ). z *ℤ pos (2 ^ (1 - subX (l .format))))
-        (sum-ext _ _ (subX (l .format) + 1) (λ j m t. cell top (T .upper) 0 c j (T .upper-is) (T .top-is) k t +ℤ cell bottom (T .lower) (subY (l .format)) c j (T .lower-is) (T .bottom-is) k t))
+        ap (λ (z : ℤ). z *ℤ pos (2 ^ (1 - subX (l .format)))) (sum-ext _ _ (subX (l .format) + 1) (λ j m. cell c j k))
         ∙ pairs-are (λ i j. noise (l .source) (l .denoised) (lumaPlace l r c i j)) (leb (l .format) 2) (leb (l .format) 1)
 
-    line-le : (line : List ℤ) (y m : ℕ) → y ≡ min m (l .height - 1) → line ≡ tabulate (l .width) (λ x. noise (l .source) (l .denoised) (place (l .width) y x))
-        → (i : ℕ) → i < length top → natAbs (at line i) ≤ 4095
-    line-le line y m f g i k =
+    pub sums-small : Within 8190 sums
+    sums-small i k =
         let o = lt-of-lt-of-le k (le-of-eq wide) in
-        le-trans (le-of-eq (ap natAbs (entry (l .width) _ g i o))) (plane-noise-le P y i (lt-of-le-of-lt (le-of-eq f) (in-height m)) o)
-
-    pub are-pairs : Pairs top bottom
-    are-pairs =
-        record {
-          same = wide ∙ sym (size (l .width) _ (T .bottom-is));
-          top-small = line-le top (T .upper) _ (T .upper-is) (T .top-is);
-          bottom-small = line-le bottom (T .lower) _ (T .lower-is) (T .bottom-is);
-        }
+        le-trans (le-of-eq (ap natAbs (entry (l .width) _ (T .sums-are) i o)))
+        (abs-add-le (noiseAt (T .upper) i) (noiseAt (T .lower) i) (plane-noise-le P (T .upper) i (lt-of-le-of-lt (le-of-eq (T .upper-is)) (in-height _)) o) (plane-noise-le P (T .lower) i (lt-of-le-of-lt (le-of-eq (T .lower-is)) (in-height _)) o))
 
     -- n columns, and sub, as they are worked out
     module _ {n sub : ℕ} (count : n ≡ columns (subX (l .format)) (l .width)) (halved : sub ≡ subX (l .format)) where
-      pub line-count : n ≡ columns sub (length top)
+      pub line-count : n ≡ columns sub (length sums)
       line-count = count ∙ (λ k. columns (sym halved k) (sym wide k))
 
-      pub line-is : tabulate n (quartered sub top bottom) ≡ tabulate (columns (subX (l .format)) (l .width)) (quarters l r)
-      line-is = (λ k. tabulate (count k) (quartered (halved k) top bottom)) ∙ tabulate-same _ _ _ quarters-are
+      pub line-is : tabulate n (quartered sub sums) ≡ tabulate (columns (subX (l .format)) (l .width)) (quarters l r)
+      line-is = (λ k. tabulate (count k) (quartered (halved k) sums)) ∙ tabulate-same _ _ _ quarters-are

@@ -4,17 +4,18 @@ use mathlib.Core.List.{List}
 use Prim.Native.Nat.{ℕ, _*_, _^_, _≤_, _<_}
 use native.Mathlib.Nat.{le-trans, le-of-eq, lt-of-le-of-lt, lt-of-lt-of-le, mul-le-mul}
 use lib.Dec.{lit≤, lit<}
-use lib.IntN.{ℤ, natAbs}
+use lib.IntN.{ℤ, natAbs, _*ℤ_}
 use lib.ListN.{length}
 use Rattle.laws.specs.Table.{tabulate}
 use Rattle.laws.specs.Sums.{sumTo}
+use Rattle.laws.proofs.Sums.{sum-ext}
 use Rattle.noise.specs.Noise.{noise, place}
 use Rattle.noise.specs.Average.{Luma, subX, subY, quarters}
-use Rattle.noise.specs.Lines.{product, Lines}
+use Rattle.noise.specs.Lines.{product, Within, Lines}
 use Rattle.noise.specs.Quarters.{columns}
-use Rattle.noise.specs.AverageSums.{squaresAlong, productsAlong, Component}
+use Rattle.noise.specs.AverageSums.{squaresAlong, productsAlong, Component, Along, along}
 use Rattle.noise.proofs.Grids.{plane-noise-le}
-use Rattle.noise.proofs.LineSums.{sum-le, sum-is, are-lines}
+use Rattle.noise.proofs.LineSums.{entry, size, sum-le, sum-is, are-lines}
 use Rattle.noise.proofs.Averages.{quarters-le}
 use Rattle.noise.proofs.ChromaSize.{Over, over, columns-le, rows-le}
 
@@ -51,10 +52,21 @@ module _ (l : Luma) {source denoised : List ℕ} {cw ch : ℕ} (K : Component l 
     pub products-le : natAbs (productsAlong l source denoised cw r) ≤ cw * (16380 * 4095)
     products-le = sum-le cw (quarters l r) (λ c. noise source denoised (place cw r c)) 16380 4095 average-le chroma-le
 
-    -- the lines
+    -- the averages, as a line
     module _ {averages : List ℤ} (e : averages ≡ tabulate (columns (subX (l .format)) (l .width)) (quarters l r)) where
       filled : averages ≡ tabulate cw (quarters l r)
       filled = e ∙ ap (λ (n : ℕ). tabulate n (quarters l r)) (sym columns-are)
+
+      averages-count : length averages ≡ cw
+      averages-count = size cw (quarters l r) filled
+
+      averages-small : Within 16380 averages
+      averages-small c k =
+          let o : c < cw = lt-of-lt-of-le k (le-of-eq averages-count) in
+          le-trans (le-of-eq (ap natAbs (entry cw (quarters l r) filled c o))) (average-le c o)
+
+      pub averages-along : Along averages source denoised cw ch r
+      averages-along = record { plane = K .of-chroma; row = in-rows; narrow = narrow; count = averages-count; within = averages-small }
 
       pub squares-lines : Lines 8 averages averages
       squares-lines = are-lines cw (quarters l r) (quarters l r) 16380 16380 average-le average-le filled filled 8 (lit< tt) (le-trans narrow (lit≤ tt))
@@ -62,9 +74,5 @@ module _ (l : Luma) {source denoised : List ℕ} {cw ch : ℕ} (K : Component l 
       pub squares-sum : sumTo (product averages averages) (length averages) ≡ squaresAlong l cw r
       squares-sum = sum-is cw (quarters l r) (quarters l r) 16380 16380 average-le average-le filled filled
 
-      module _ {chroma : List ℤ} (d : chroma ≡ tabulate cw (λ c. noise source denoised (place cw r c))) where
-        pub products-lines : Lines 32 averages chroma
-        products-lines = are-lines cw (quarters l r) (λ c. noise source denoised (place cw r c)) 16380 4095 average-le chroma-le filled d 32 (lit< tt) (le-trans narrow (lit≤ tt))
-
-        pub products-sum : sumTo (product averages chroma) (length averages) ≡ productsAlong l source denoised cw r
-        products-sum = sum-is cw (quarters l r) (λ c. noise source denoised (place cw r c)) 16380 4095 average-le chroma-le filled d
+      pub products-sum : sumTo (along averages source denoised cw r) cw ≡ productsAlong l source denoised cw r
+      products-sum = sum-ext _ _ cw (λ c k j. entry cw (quarters l r) filled c k j *ℤ noise source denoised (place cw r c))

@@ -9,6 +9,7 @@ use lib.Signed.{_≤ℤ_, leZ-yes, ltZ-yes}
 use borrow.Author.Tests.{le-ltb}
 use Rattle.laws.specs.Sums.{sumTo, span}
 use Rattle.laws.specs.Scaled.{ofScaled}
+use Rattle.laws.specs.Window.{window}
 use Rattle.laws.specs.Law.{Held}
 use Rattle.laws.proofs.Sums.{sum-factor-right}
 use Rattle.laws.proofs.Scaled.{scaled-finer}
@@ -17,9 +18,9 @@ use Rattle.noise.specs.Noise.{noise}
 use Rattle.noise.specs.Average.{Luma, quarters}
 use Rattle.noise.specs.AverageSums.{averageSquares, averageProducts}
 use Rattle.noise.specs.Products.{Pair, Factor, average, own, Inside, Exists, whole, exactly, scale}
-use Rattle.noise.specs.Claim.{Limited, limitOf}
+use Rattle.noise.specs.Claim.{Limited, limitOf, PositionsOf}
 use Rattle.noise.specs.Steps.{InFit, near, tap, windowF}
-use Rattle.noise.proofs.Steps.{window-sum, grid-sum, own-place, inside-on}
+use Rattle.noise.proofs.Steps.{window-positions, window-sum, grid-sum, own-place, inside-on}
 
 -- k rows or columns back
 inside-back : (n r k : ℕ) → k < r → r < n → Inside n (pos r +ℤ negsuc k)
@@ -37,6 +38,11 @@ fit-exists : (plane : Pair) (lag : ℕ) (u : Factor) → InFit plane lag u → (
 fit-exists plane lag u (near dr dc a b c d) y x h k l m =
     (inside-near (plane .height) lag 0 y dr a b h (omega arith), inside-near (plane .width) lag lag x dc c d l (omega arith))
 fit-exists plane lag u (tap luma high wide) y x h k l m = (omega arith, omega arith)
+
+-- the window is a set of positions of any two of the factors
+pub fit-positions : (plane : Pair) (lag : ℕ) (u v : Factor) → InFit plane lag u → InFit plane lag v → PositionsOf u v (window lag (plane .height) lag (plane .width - lag))
+fit-positions plane lag u v a b =
+    window-positions u v lag (plane .height) lag (plane .width - lag) (λ y x h k l m. (fit-exists plane lag u a y x h k l m, fit-exists plane lag v b y x h k l m))
 
 -- the sample's own noise
 pub own-near : (plane : Pair) (lag : ℕ) → InFit plane lag (own plane)

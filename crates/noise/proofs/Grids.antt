@@ -2,13 +2,11 @@
 use mathlib.Core.Path.{_≡_, sym, ap, _∙_}
 use mathlib.Core.List.{List}
 use Prim.Native.Nat.{ℕ, _+_, _*_, _^_, _≤_, _<_}
-use native.Mathlib.Nat.{le-of-eq, le-trans, lt-of-lt-of-le, add-comm, mul-one, mul-comm, suc-mul, mul-le-mul-right}
+use native.Mathlib.Nat.{le-of-eq, le-trans, lt-of-lt-of-le, add-comm, mul-comm, suc-mul, mul-le-mul-right}
 use native.Mathlib.Omega.{arith}
 use lib.Arith.{digits-lt}
-use lib.IntN.{natAbs, _*ℤ_}
+use lib.IntN.{ℤ, natAbs}
 use lib.ListN.{length}
-use Rattle.laws.specs.Table.{tabulate}
-use Rattle.laws.proofs.Table.{tabulate-same}
 use Rattle.laws.proofs.Sums.{sum-ext}
 use Rattle.noise.specs.Noise.{noise, place}
 use Rattle.noise.specs.Lines.{Places, Plane}
@@ -45,20 +43,9 @@ module _ {w h : ℕ} {source denoised : List ℕ} (P : Plane w h source denoised
   pub plane-rows : (start n : ℕ) → start + n ≤ w → Rows source denoised (columnsFrom w start) h n
   plane-rows start n m r l = row-places (start + r * w) r start n (add-comm start (r * w)) l m
 
--- a row, filled with a stride of 1
-pub row-line : (source denoised : List ℕ) (w y : ℕ) {n : ℕ} → n ≡ w
-    → tabulate n (λ i. noise source denoised (y * w + i * 1)) ≡ tabulate w (λ x. noise source denoised (place w y x))
-row-line source denoised w y e = rw e (tabulate-same w _ _ (λ i l. ap (λ (k : ℕ). noise source denoised (y * w + k)) (mul-one i)))
+-- sums over rows and columns, counted as m
+pub over-plane : (h n : ℕ) {m : ℕ} (f g : ℕ → ℕ → ℤ) → m ≡ n → ((r c : ℕ) → f r c ≡ g r c) → sumOver h m f ≡ sumOver h n g
+over-plane h n f g same e = rw same (sum-ext _ _ h (λ r l. sum-ext _ _ n (λ c k. e r c)))
 
--- n columns, counted as m
-module _ (source0 denoised0 source1 denoised1 : List ℕ) (w h lag n : ℕ) {m : ℕ} (same : m ≡ n) where
-  pub plane-sum : sumOver h m (λ r c. noiseAt source0 denoised0 (columnsFrom w 0) r c *ℤ noiseAt source1 denoised1 (columnsFrom w lag) r c)
-      ≡ sumOver h n (λ r c. noise source0 denoised0 (place w r c) *ℤ noise source1 denoised1 (place w r (c + lag)))
-  plane-sum =
-      rw same (sum-ext _ _ h (λ r l. sum-ext _ _ n (λ c k j. noise source0 denoised0 (first r c j) *ℤ noise source1 denoised1 (second r c j))))
-    where
-      first : (r c : ℕ) → 0 + r * w + c * 1 ≡ r * w + c
-      first r c = omega arith
-
-      second : (r c : ℕ) → lag + r * w + c * 1 ≡ r * w + (c + lag)
-      second r c = omega arith
+pub plane-noise : (source denoised : List ℕ) (w r c : ℕ) → noiseAt source denoised (columnsFrom w 0) r c ≡ noise source denoised (place w r c)
+plane-noise source denoised w r c = ap (noise source denoised) (omega arith)

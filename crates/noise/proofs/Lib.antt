@@ -13,8 +13,10 @@ pub mod Shift
 pub mod BlockSums
 pub mod LineSums
 pub mod NoiseSums
+pub mod NoiseLines
 pub mod Grids
 pub mod Quarters
 pub mod Averages
 pub mod ChromaSize
 pub mod ChromaSums
+pub mod AlongRows

@@ -1,17 +1,15 @@
--- Two lines of noise, from places of two planes: lines for blocks of 32, with the sum of their products and its size. Assumes nothing.
+-- Two lines of noise, from places of two planes: the sum of their products, and its size. Assumes nothing.
 use mathlib.Core.Path.{_≡_}
 use mathlib.Core.List.{List}
 use Prim.Native.Nat.{ℕ, _+_, _*_, _^_, _≤_}
-use native.Mathlib.Nat.{le-trans}
-use lib.Dec.{lit≤, lit<}
 use lib.IntN.{ℤ, natAbs, _*ℤ_}
 use lib.ListN.{length}
 use Rattle.laws.specs.Table.{tabulate}
 use Rattle.laws.specs.Sums.{sumTo}
 use Rattle.noise.specs.Noise.{noise}
-use Rattle.noise.specs.Lines.{product, Places, Lines}
+use Rattle.noise.specs.Lines.{product, Places}
 use Rattle.noise.proofs.Lines.{noise-le}
-use Rattle.noise.proofs.LineSums.{are-lines, sum-is, sum-le}
+use Rattle.noise.proofs.LineSums.{sum-is, sum-le}
 
 module _ {source0 denoised0 source1 denoised1 : List ℕ} {start0 stride0 start1 stride1 n : ℕ}
     (P : Places (2 ^ 12) source0 denoised0 start0 stride0 n) (Q : Places (2 ^ 12) source1 denoised1 start1 stride1 n) where
@@ -25,8 +23,5 @@ module _ {source0 denoised0 source1 denoised1 : List ℕ} {start0 stride0 start1
   noise-sum-le = sum-le n first second 4095 4095 (noise-le P) (noise-le Q)
 
   module _ {p q : List ℤ} (e : p ≡ tabulate n first) (d : q ≡ tabulate n second) where
-    pub noise-lines : n ≤ 2 ^ 12 → Lines 32 p q
-    noise-lines few = are-lines n first second 4095 4095 (noise-le P) (noise-le Q) e d 32 (lit< tt) (le-trans few (lit≤ tt))
-
     pub noise-sum : sumTo (product p q) (length p) ≡ sumTo (λ i. first i *ℤ second i) n
     noise-sum = sum-is n first second 4095 4095 (noise-le P) (noise-le Q) e d

@@ -1,13 +1,14 @@
 -- "Sum of luma average × chroma noise over sum of squared averages", as whole numbers: "sums with luma averages are compared sixteenfold".
 use mathlib.Core.Path.{_≡_}
 use mathlib.Core.List.{List}
-use Prim.Native.Nat.{ℕ, _≤_}
+use Prim.Native.Nat.{ℕ, _≤_, _<_}
 use lib.IntN.{ℤ, _*ℤ_}
+use lib.ListN.{length}
 use Rattle.laws.specs.Sums.{sumTo}
 use Rattle.frame.specs.Size.{chromaWidth, chromaHeight}
 use Rattle.noise.specs.Noise.{noise, place}
 use Rattle.noise.specs.Average.{Luma, quarters}
-use Rattle.noise.specs.Lines.{Plane}
+use Rattle.noise.specs.Lines.{at, Within, Plane}
 
 -- the squared averages along chroma row r and over the plane, in sixteenths
 abbrev pub squaresAlong : Luma → ℕ → ℕ → ℤ
@@ -31,3 +32,15 @@ pub record Component (l : Luma) (source denoised : List ℕ) (cw ch : ℕ) : Typ
   pub low : l .height ≤ 4096
   pub of-luma : Plane (l .width) (l .height) (l .source) (l .denoised)
   pub of-chroma : Plane cw ch source denoised
+
+-- a line of averages, and row y of a chroma plane, which is as wide
+pub record Along (averages : List ℤ) (source denoised : List ℕ) (w h y : ℕ) : Type 0 where
+  pub plane : Plane w h source denoised
+  pub row : y < h
+  pub narrow : w ≤ 4096
+  pub count : length averages ≡ w
+  pub within : Within 16380 averages
+
+-- average × noise at column c
+abbrev pub along : List ℤ → List ℕ → List ℕ → ℕ → ℕ → ℕ → ℤ
+along averages source denoised w y c = at averages c *ℤ noise source denoised (place w y c)

@@ -13,6 +13,10 @@ at line i = getD line i (pos 0)
 abbrev pub product : List ℤ → List ℤ → ℕ → ℤ
 product p q i = at p i *ℤ at q i
 
+-- every number of a line is at most m in size
+abbrev pub Within : ℕ → List ℤ → Type 0
+Within m line = (i : ℕ) → i < length line → natAbs (at line i) ≤ m
+
 -- every sample of a plane is below c
 abbrev pub Below : ℕ → List ℕ → Type 0
 Below c plane = (i : ℕ) → i < length plane → getD plane i 0 < c
@@ -31,6 +35,11 @@ pub record Plane (w h : ℕ) (source denoised : List ℕ) : Type 0 where
   pub denoised-size : length denoised ≡ w * h
   pub source-low : Below (2 ^ 12) source
   pub denoised-low : Below (2 ^ 12) denoised
+
+-- a line of noise of such samples: at most 4,096 numbers, each at most 4,095 in size
+pub record NoiseLine (line : List ℤ) : Type 0 where
+  pub few : length line ≤ 2 ^ 12
+  pub small : (i : ℕ) → i < length line → natAbs (at line i) ≤ 4095
 
 -- two lines of one length, whose products are so small that an i32 holds the sum of any `size` of them
 pub record Lines (size : ℕ) (p q : List ℤ) : Type 0 where

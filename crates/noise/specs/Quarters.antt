@@ -1,24 +1,16 @@
--- "the average of the 1, 2 or 4 luma noises at the chroma place, the last row and column repeated": four times it, from two lines of luma noise. They are the rows of the chroma place; one row twice where the format keeps the rows, or the last is repeated.
-use mathlib.Core.Path.{_≡_}
+-- "the average of the 1, 2 or 4 luma noises at the chroma place, the last row and column repeated": four times it, from the luma noise of two rows, added column by column. They are the rows of the chroma place; one row twice where the format keeps the rows, or the last is repeated.
 use mathlib.Core.List.{List}
-use Prim.Native.Nat.{ℕ, _+_, _-_, _*_, _/_, _^_, _≤_, _<_, min}
-use lib.IntN.{ℤ, pos, natAbs, _+ℤ_, _*ℤ_}
+use Prim.Native.Nat.{ℕ, _+_, _-_, _*_, _/_, _^_, min}
+use lib.IntN.{ℤ, pos, _*ℤ_}
 use lib.ListN.{length}
 use Rattle.laws.specs.Sums.{sumTo}
 use Rattle.noise.specs.Average.{Luma}
 use Rattle.noise.specs.Lines.{at}
 
 -- at column c; sub is 1 where the format halves the columns, else 0
-unfoldable pub quartered : ℕ → List ℤ → List ℤ → ℕ → ℤ
+unfoldable pub quartered : ℕ → List ℤ → ℕ → ℤ
 unfolding sumTo
-quartered sub top bottom c =
-    sumTo (λ j. at top (min (c * 2 ^ sub + j) (length top - 1)) +ℤ at bottom (min (c * 2 ^ sub + j) (length top - 1))) (sub + 1) *ℤ pos (2 ^ (1 - sub))
-
--- two such lines: of one length, and of numbers at most 4,095 in size
-pub record Pairs (top bottom : List ℤ) : Type 0 where
-  pub same : length top ≡ length bottom
-  pub top-small : (i : ℕ) → i < length top → natAbs (at top i) ≤ 4095
-  pub bottom-small : (i : ℕ) → i < length top → natAbs (at bottom i) ≤ 4095
+quartered sub sums c = sumTo (λ j. at sums (min (c * 2 ^ sub + j) (length sums - 1))) (sub + 1) *ℤ pos (2 ^ (1 - sub))
 
 -- the number of chroma columns over w luma columns
 abbrev pub columns : ℕ → ℕ → ℕ

@@ -1,70 +1,118 @@
-// Sums of luma averages and chroma noise over a chroma plane.
+// Sums of luma averages and chroma noise over the chroma planes of a frame.
 ghost use mathlib.Core.Path.{_≡_};
-ghost use Prim.Native.Nat.{_<_};
+ghost use Prim.Native.Nat.{_+_, _≤_, _<_};
 ghost use lib.ListN.{length};
+ghost use Rattle.laws.specs.Sums.{sumTo, span};
 ghost use Rattle.noise.specs.Quarters.{luma};
-ghost use Rattle.noise.specs.AverageSums.{squaresAlong, averageSquares, productsAlong, averageProducts, Component};
+ghost use Rattle.noise.specs.AverageSums.{squaresAlong, averageSquares, productsAlong, averageProducts, Component, Along, along};
 use crate::average::average_line;
-use crate::blocks::dot;
+use crate::average::noise_at;
 use crate::blocks::dot_wide;
 use crate::line::blank_line;
-use crate::line::noise_row;
 
-// The squared averages in sixteenths, and average × chroma noise in quarters.
+// The squared averages in sixteenths, and average × noise of Cb and of Cr in quarters.
 pub struct AverageSums {
     pub squares: i64,
-    pub products: i64,
+    pub cb: i64,
+    pub cr: i64,
 }
 
-// Both along chroma row r. Planes src and den are luma's, csrc and cden chroma's, cw wide and ch high.
+// average × noise at n columns from `from` on of row y: an i32 holds 32 of them.
+fn noise_block(
+    averages: &[i16],
+    src: &[u16],
+    den: &[u16],
+    w: usize,
+    h: usize,
+    y: usize,
+    from: usize,
+    n: usize,
+) -> i32
+    requires { ⌜ Along (now averages) (now src) (now den) w h y × (n ≤ 32) × (from + n ≤ w) ⌝ }
+    ensures { λ r. ⌜ r ≡ span (along (now (averages .entry)) (now (src .entry)) (now (den .entry)) w y) from n ⌝ }
+{
+    let mut sum = 0i32;
+    let mut i = 0usize;
+    while i < n {
+        let k = from + i;
+        let a = averages[k] as i32;
+        let d = noise_at(src, den, w, h, y, k) as i32;
+        sum = sum + a * d;
+        i += 1usize;
+    }
+    sum
+}
+
+// average × noise along row y of a chroma plane, w wide. In blocks of 16 the back end fills its packed multiply-adds.
+fn average_noise(averages: &[i16], src: &[u16], den: &[u16], w: usize, h: usize, y: usize) -> i64
+    requires { ⌜ Along (now averages) (now src) (now den) w h y ⌝ }
+    ensures { λ s. ⌜ s ≡ sumTo (along (now (averages .entry)) (now (src .entry)) (now (den .entry)) w y) w ⌝ }
+{
+    let mut sum = 0i64;
+    let mut from = 0usize;
+    while 16usize <= w - from {
+        let part = noise_block(averages, src, den, w, h, y, from, 16usize) as i64;
+        sum = sum + part;
+        from += 16usize;
+    }
+    let rest = noise_block(averages, src, den, w, h, y, from, w - from) as i64;
+    sum + rest
+}
+
+// All three along chroma row r. Planes src and den are luma's; Cb and Cr are cw wide and ch high.
 fn average_row(
     src: &[u16],
     den: &[u16],
     w: usize,
     h: usize,
     format: u8,
-    csrc: &[u16],
-    cden: &[u16],
+    cb: &[u16],
+    dcb: &[u16],
+    cr: &[u16],
+    dcr: &[u16],
     cw: usize,
     ch: usize,
     r: usize,
-    top: &mut [i16],
-    bottom: &mut [i16],
-    line: &mut [i16],
-    chroma: &mut [i16],
+    sums: &mut [i16],
+    averages: &mut [i16],
 ) -> AverageSums
-    requires { ⌜ Component (luma (now src) (now den) w h format) (now csrc) (now cden) cw ch × (r < ch) × (length (now top) ≡ w) × (length (now bottom) ≡ w) × (length (now line) ≡ cw) × (length (now chroma) ≡ cw) ⌝ }
-    ensures { λ s. ⌜ (s .squares ≡ squaresAlong (luma (now (src .entry)) (now (den .entry)) w h format) cw r) × (s .products ≡ productsAlong (luma (now (src .entry)) (now (den .entry)) w h format) (now (csrc .entry)) (now (cden .entry)) cw r) ⌝ }
+    requires { ⌜ Component (luma (now src) (now den) w h format) (now cb) (now dcb) cw ch × Component (luma (now src) (now den) w h format) (now cr) (now dcr) cw ch × (r < ch) × (length (now sums) ≡ w) × (length (now averages) ≡ cw) ⌝ }
+    ensures { λ s. ⌜ (s .squares ≡ squaresAlong (luma (now (src .entry)) (now (den .entry)) w h format) cw r) × (s .cb ≡ productsAlong (luma (now (src .entry)) (now (den .entry)) w h format) (now (cb .entry)) (now (dcb .entry)) cw r) × (s .cr ≡ productsAlong (luma (now (src .entry)) (now (den .entry)) w h format) (now (cr .entry)) (now (dcr .entry)) cw r) ⌝ }
 {
-    average_line(src, den, w, h, format, r, top, bottom, line);
-    noise_row(csrc, cden, cw, ch, r, chroma);
-    let averages = &line[..];
-    let squares = dot_wide(averages, averages);
-    let products = dot(averages, chroma);
-    AverageSums { squares, products }
+    average_line(src, den, w, h, format, r, sums, averages);
+    let filled = &averages[..];
+    let squares = dot_wide(filled, filled);
+    let blue = average_noise(filled, cb, dcb, cw, ch, r);
+    let red = average_noise(filled, cr, dcr, cw, ch, r);
+    AverageSums {
+        squares,
+        cb: blue,
+        cr: red,
+    }
 }
 
-// Both over the rows of a chroma plane.
+// All three over the rows of the chroma planes.
 fn average_rows(
     src: &[u16],
     den: &[u16],
     w: usize,
     h: usize,
     format: u8,
-    csrc: &[u16],
-    cden: &[u16],
+    cb: &[u16],
+    dcb: &[u16],
+    cr: &[u16],
+    dcr: &[u16],
     cw: usize,
     ch: usize,
-    top: &mut [i16],
-    bottom: &mut [i16],
-    line: &mut [i16],
-    chroma: &mut [i16],
+    sums: &mut [i16],
+    averages: &mut [i16],
 ) -> AverageSums
-    requires { ⌜ Component (luma (now src) (now den) w h format) (now csrc) (now cden) cw ch × (length (now top) ≡ w) × (length (now bottom) ≡ w) × (length (now line) ≡ cw) × (length (now chroma) ≡ cw) ⌝ }
-    ensures { λ s. ⌜ (s .squares ≡ averageSquares (luma (now (src .entry)) (now (den .entry)) w h format) cw ch) × (s .products ≡ averageProducts (luma (now (src .entry)) (now (den .entry)) w h format) (now (csrc .entry)) (now (cden .entry)) cw ch) ⌝ }
+    requires { ⌜ Component (luma (now src) (now den) w h format) (now cb) (now dcb) cw ch × Component (luma (now src) (now den) w h format) (now cr) (now dcr) cw ch × (length (now sums) ≡ w) × (length (now averages) ≡ cw) ⌝ }
+    ensures { λ s. ⌜ (s .squares ≡ averageSquares (luma (now (src .entry)) (now (den .entry)) w h format) cw ch) × (s .cb ≡ averageProducts (luma (now (src .entry)) (now (den .entry)) w h format) (now (cb .entry)) (now (dcb .entry)) cw ch) × (s .cr ≡ averageProducts (luma (now (src .entry)) (now (den .entry)) w h format) (now (cr .entry)) (now (dcr .entry)) cw ch) ⌝ }
 {
     let mut squares = 0i64;
-    let mut products = 0i64;
+    let mut blue = 0i64;
+    let mut red = 0i64;
     let mut r = 0usize;
     while r < ch {
         let row = average_row(
@@ -73,55 +121,60 @@ fn average_rows(
             w,
             h,
             format,
-            csrc,
-            cden,
+            cb,
+            dcb,
+            cr,
+            dcr,
             cw,
             ch,
             r,
-            top,
-            bottom,
-            line,
-            chroma,
+            sums,
+            averages,
         );
         squares = squares + row.squares;
-        products = products + row.products;
+        blue = blue + row.cb;
+        red = red + row.cr;
         r += 1usize;
     }
-    AverageSums { squares, products }
+    AverageSums {
+        squares,
+        cb: blue,
+        cr: red,
+    }
 }
 
-// The sums of squared averages, and of average × chroma noise, over a chroma plane.
+// The sums of squared averages, and of average × noise of Cb and of Cr, over the chroma planes: each row's averages serve both.
 pub fn average_products(
     src: &[u16],
     den: &[u16],
     w: usize,
     h: usize,
     format: u8,
-    csrc: &[u16],
-    cden: &[u16],
+    cb: &[u16],
+    dcb: &[u16],
+    cr: &[u16],
+    dcr: &[u16],
     cw: usize,
     ch: usize,
 ) -> AverageSums
-    requires { ⌜ Component (luma (now src) (now den) w h format) (now csrc) (now cden) cw ch ⌝ }
-    ensures { λ s. ⌜ (s .squares ≡ averageSquares (luma (now (src .entry)) (now (den .entry)) w h format) cw ch) × (s .products ≡ averageProducts (luma (now (src .entry)) (now (den .entry)) w h format) (now (csrc .entry)) (now (cden .entry)) cw ch) ⌝ }
+    requires { ⌜ Component (luma (now src) (now den) w h format) (now cb) (now dcb) cw ch × Component (luma (now src) (now den) w h format) (now cr) (now dcr) cw ch ⌝ }
+    ensures { λ s. ⌜ (s .squares ≡ averageSquares (luma (now (src .entry)) (now (den .entry)) w h format) cw ch) × (s .cb ≡ averageProducts (luma (now (src .entry)) (now (den .entry)) w h format) (now (cb .entry)) (now (dcb .entry)) cw ch) × (s .cr ≡ averageProducts (luma (now (src .entry)) (now (den .entry)) w h format) (now (cr .entry)) (now (dcr .entry)) cw ch) ⌝ }
 {
-    let mut top = blank_line();
-    let mut bottom = blank_line();
-    let mut line = blank_line();
-    let mut chroma = blank_line();
+    let mut sums = blank_line();
+    let mut averages = blank_line();
     average_rows(
         src,
         den,
         w,
         h,
         format,
-        csrc,
-        cden,
+        cb,
+        dcb,
+        cr,
+        dcr,
         cw,
         ch,
-        &mut top[..w],
-        &mut bottom[..w],
-        &mut line[..cw],
-        &mut chroma[..cw],
+        &mut sums[..w],
+        &mut averages[..cw],
     )
 }

@@ -4,9 +4,9 @@ ghost use Prim.Native.Nat.{ℕ, _+_, _*_, _^_, _<_};
 ghost use lib.IntN.{pos};
 ghost use lib.ListN.{length};
 ghost use Rattle.laws.specs.Table.{tabulate};
-ghost use Rattle.noise.specs.Noise.{noise, place};
+ghost use Rattle.noise.specs.Noise.{noise};
 ghost use Rattle.noise.specs.Shift.{shifted};
-ghost use Rattle.noise.specs.Lines.{at, Places, Plane};
+ghost use Rattle.noise.specs.Lines.{at, Places};
 
 // line[i] = src[start + i × stride] − den[start + i × stride].
 fn noise_places(src: &[u16], den: &[u16], start: usize, stride: usize, line: &mut [i16])
@@ -33,14 +33,6 @@ pub fn noise_line(src: &[u16], den: &[u16], start: usize, stride: usize, line: &
     } else {
         noise_places(src, den, start, stride, line);
     }
-}
-
-// The noise of row y of two planes, w wide.
-pub fn noise_row(src: &[u16], den: &[u16], w: usize, h: usize, y: usize, line: &mut [i16])
-    requires { ⌜ Plane w h (now src) (now den) × (y < h) × (length (now line) ≡ w) ⌝ }
-    ensures { λ _. ⌜ now (line .exit) ≡ tabulate w (λ x. noise (now (src .entry)) (now (den .entry)) (place w y x)) ⌝ }
-{
-    noise_line(src, den, y * w, 1usize, line);
 }
 
 // out[i] = line[i] >> shift, rounded down.

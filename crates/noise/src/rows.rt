@@ -1,6 +1,6 @@
-// Sums of noise products over the rows of two planes.
+// Sums over two planes of noise: of the second's squares, and of products of both.
 ghost use mathlib.Core.Path.{_≡_};
-ghost use Prim.Native.Nat.{_+_, _-_, _*_, _^_, _≤_};
+ghost use Prim.Native.Nat.{_+_, _*_, _^_, _≤_};
 ghost use lib.IntN.{_*ℤ_};
 ghost use lib.ListN.{length};
 ghost use Rattle.laws.specs.Sums.{sumTo};
@@ -18,8 +18,14 @@ pub struct Grid {
     pub stride: usize,
 }
 
-// The products of two lines of noise, each from a start and a stride of its own, summed. The lines are p and q.
-fn row_products(
+// Of two noises n₀ and n₁: Σ n₁² and Σ n₀ × n₁.
+pub struct PairSums {
+    pub second: i64,
+    pub cross: i64,
+}
+
+// The sums of two rows, each from a start and by a stride of its own. Their noises are p and q.
+fn row_pair(
     src0: &[u16],
     den0: &[u16],
     start0: usize,
@@ -30,17 +36,20 @@ fn row_products(
     stride1: usize,
     p: &mut [i16],
     q: &mut [i16],
-) -> i64
+) -> PairSums
     requires { ⌜ Places (2 ^ 12) (now src0) (now den0) start0 stride0 (length (now p)) × Places (2 ^ 12) (now src1) (now den1) start1 stride1 (length (now p)) × (length (now p) ≤ 2 ^ 12) × (length (now q) ≡ length (now p)) ⌝ }
-    ensures { λ r. ⌜ r ≡ sumTo (λ c. noise (now (src0 .entry)) (now (den0 .entry)) (start0 + c * stride0) *ℤ noise (now (src1 .entry)) (now (den1 .entry)) (start1 + c * stride1)) (length (now (p .entry))) ⌝ }
+    ensures { λ s. ⌜ (s .second ≡ sumTo (λ c. noise (now (src1 .entry)) (now (den1 .entry)) (start1 + c * stride1) *ℤ noise (now (src1 .entry)) (now (den1 .entry)) (start1 + c * stride1)) (length (now (p .entry)))) × (s .cross ≡ sumTo (λ c. noise (now (src0 .entry)) (now (den0 .entry)) (start0 + c * stride0) *ℤ noise (now (src1 .entry)) (now (den1 .entry)) (start1 + c * stride1)) (length (now (p .entry)))) ⌝ }
 {
     noise_line(src0, den0, start0, stride0, p);
     noise_line(src1, den1, start1, stride1, q);
-    dot(p, q)
+    let line = &q[..];
+    let second = dot(line, line);
+    let cross = dot(p, line);
+    PairSums { second, cross }
 }
 
-// The noise of two planes at the places of two grids, multiplied and summed over rows and columns. The lines p and q have a place for each column.
-pub fn grid_products(
+// The sums over the rows of two grids. The lines p and q have a place for each column.
+pub fn grid_pair(
     src0: &[u16],
     den0: &[u16],
     grid0: Grid,
@@ -50,14 +59,15 @@ pub fn grid_products(
     rows: usize,
     p: &mut [i16],
     q: &mut [i16],
-) -> i64
+) -> PairSums
     requires { ⌜ Rows (now src0) (now den0) grid0 rows (length (now p)) × Rows (now src1) (now den1) grid1 rows (length (now p)) × (rows ≤ 2 ^ 12) × (length (now p) ≤ 2 ^ 12) × (length (now q) ≡ length (now p)) ⌝ }
-    ensures { λ s. ⌜ s ≡ sumOver rows (length (now (p .entry))) (λ r c. noiseAt (now (src0 .entry)) (now (den0 .entry)) grid0 r c *ℤ noiseAt (now (src1 .entry)) (now (den1 .entry)) grid1 r c) ⌝ }
+    ensures { λ s. ⌜ (s .second ≡ sumOver rows (length (now (p .entry))) (λ r c. noiseAt (now (src1 .entry)) (now (den1 .entry)) grid1 r c *ℤ noiseAt (now (src1 .entry)) (now (den1 .entry)) grid1 r c)) × (s .cross ≡ sumOver rows (length (now (p .entry))) (λ r c. noiseAt (now (src0 .entry)) (now (den0 .entry)) grid0 r c *ℤ noiseAt (now (src1 .entry)) (now (den1 .entry)) grid1 r c)) ⌝ }
 {
-    let mut sum = 0i64;
+    let mut second = 0i64;
+    let mut cross = 0i64;
     let mut r = 0usize;
     while r < rows {
-        let part = row_products(
+        let row = row_pair(
             src0,
             den0,
             grid0.start + r * grid0.step,
@@ -69,47 +79,41 @@ pub fn grid_products(
             p,
             q,
         );
-        sum = sum + part;
+        second = second + row.second;
+        cross = cross + row.cross;
         r += 1usize;
     }
-    sum
+    PairSums { second, cross }
 }
 
-// A noise of the one plane times the noise of the other `lag` columns on, summed over h rows, w wide.
-pub fn lagged_products(
+// The sums over two planes of h rows, w wide.
+pub fn pair_sums(
     src0: &[u16],
     den0: &[u16],
     src1: &[u16],
     den1: &[u16],
     w: usize,
     h: usize,
-    lag: usize,
-) -> i64
-    requires { ⌜ Plane w h (now src0) (now den0) × Plane w h (now src1) (now den1) × (w ≤ 4096) × (h ≤ 4096) × (lag ≤ w) ⌝ }
-    ensures { λ s. ⌜ s ≡ sumOver h (w - lag) (λ r c. noise (now (src0 .entry)) (now (den0 .entry)) (place w r c) *ℤ noise (now (src1 .entry)) (now (den1 .entry)) (place w r (c + lag))) ⌝ }
+) -> PairSums
+    requires { ⌜ Plane w h (now src0) (now den0) × Plane w h (now src1) (now den1) × (w ≤ 4096) × (h ≤ 4096) ⌝ }
+    ensures { λ s. ⌜ (s .second ≡ sumOver h w (λ r c. noise (now (src1 .entry)) (now (den1 .entry)) (place w r c) *ℤ noise (now (src1 .entry)) (now (den1 .entry)) (place w r c))) × (s .cross ≡ sumOver h w (λ r c. noise (now (src0 .entry)) (now (den0 .entry)) (place w r c) *ℤ noise (now (src1 .entry)) (now (den1 .entry)) (place w r c))) ⌝ }
 {
     let mut p = blank_line();
     let mut q = blank_line();
-    let n = w - lag;
-    let grid0 = Grid {
+    let grid = Grid {
         start: 0usize,
         step: w,
         stride: 1usize,
     };
-    let grid1 = Grid {
-        start: lag,
-        step: w,
-        stride: 1usize,
-    };
-    grid_products(
+    grid_pair(
         src0,
         den0,
-        grid0,
+        grid,
         src1,
         den1,
-        grid1,
+        grid,
         h,
-        &mut p[..n],
-        &mut q[..n],
+        &mut p[..w],
+        &mut q[..w],
     )
 }

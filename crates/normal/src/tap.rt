@@ -73,14 +73,13 @@ fn average_squares(
     r: usize,
     n: usize,
     lag: usize,
-    top: &mut [i16],
-    bottom: &mut [i16],
+    sums: &mut [i16],
     averages: &mut [i16],
 ) -> i64
-    requires { ⌜ LumaOver (luma (now src) (now den) w h format) (length (now averages)) (r + 1) × (length (now top) ≡ w) × (length (now bottom) ≡ w) × (lag + n ≤ length (now averages)) × (n ≤ 2 ^ 12) ⌝ }
+    requires { ⌜ LumaOver (luma (now src) (now den) w h format) (length (now averages)) (r + 1) × (length (now sums) ≡ w) × (lag + n ≤ length (now averages)) × (n ≤ 2 ^ 12) ⌝ }
     ensures { λ s. ⌜ (s ≡ startSum (quarters (luma (now (src .entry)) (now (den .entry)) w h format) r) (quarters (luma (now (src .entry)) (now (den .entry)) w h format) r) n lag lag) × (now (averages .exit) ≡ tabulate (length (now (averages .entry))) (quarters (luma (now (src .entry)) (now (den .entry)) w h format) r)) ⌝ }
 {
-    average_line(src, den, w, h, format, r, top, bottom, averages);
+    average_line(src, den, w, h, format, r, sums, averages);
     square_sum(averages, n, lag)
 }
 
@@ -99,14 +98,13 @@ fn tap_rows(
     cw: usize,
     ch: usize,
     lag: usize,
-    top: &mut [i16],
-    bottom: &mut [i16],
+    sums: &mut [i16],
     averages: &mut [i16],
     line: &mut [i16],
     cbtaps: &mut [i64],
     crtaps: &mut [i64],
 ) -> i64
-    requires { ⌜ Planes (luma (now src) (now den) w h format) (now cb) (now dcb) (now cr) (now dcr) grid cw ch lag × (length (now top) ≡ w) × (length (now bottom) ≡ w) × (length (now averages) ≡ cw) × (length (now line) ≡ cw) × Zeros (factors lag) (now cbtaps) × Zeros (factors lag) (now crtaps) ⌝ }
+    requires { ⌜ Planes (luma (now src) (now den) w h format) (now cb) (now dcb) (now cr) (now dcr) grid cw ch lag × (length (now sums) ≡ w) × (length (now averages) ≡ cw) × (length (now line) ≡ cw) × Zeros (factors lag) (now cbtaps) × Zeros (factors lag) (now crtaps) ⌝ }
     ensures { λ s. ⌜ TapSums (luma (now (src .entry)) (now (den .entry)) w h format) (now (cb .entry)) (now (dcb .entry)) (now (cr .entry)) (now (dcr .entry)) grid cw ch lag s (now (cbtaps .exit)) (now (crtaps .exit)) ⌝ }
 {
     let n = cw - 2usize * lag;
@@ -114,19 +112,7 @@ fn tap_rows(
     let mut squares = 0i64;
     let mut y = 0usize;
     while y < rows {
-        let part = average_squares(
-            src,
-            den,
-            w,
-            h,
-            format,
-            y + lag,
-            n,
-            lag,
-            top,
-            bottom,
-            averages,
-        );
+        let part = average_squares(src, den, w, h, format, y + lag, n, lag, sums, averages);
         squares = squares + part;
         tap_row(cb, dcb, grid, cw, y, lag, averages, line, cbtaps);
         tap_row(cr, dcr, grid, cw, y, lag, averages, line, crtaps);
@@ -167,8 +153,7 @@ pub fn tap_sums(
     requires { ⌜ Planes (luma (now src) (now den) w h format) (now cb) (now dcb) (now cr) (now dcr) grid cw ch lag × (length (now cbtaps) ≡ factors lag) × (length (now crtaps) ≡ factors lag) ⌝ }
     ensures { λ s. ⌜ TapSums (luma (now (src .entry)) (now (den .entry)) w h format) (now (cb .entry)) (now (dcb .entry)) (now (cr .entry)) (now (dcr .entry)) grid cw ch lag s (now (cbtaps .exit)) (now (crtaps .exit)) ⌝ }
 {
-    let mut top = blank_line();
-    let mut bottom = blank_line();
+    let mut sums = blank_line();
     let mut averages = blank_line();
     let mut line = blank_line();
     clear(cbtaps);
@@ -187,8 +172,7 @@ pub fn tap_sums(
         cw,
         ch,
         lag,
-        &mut top[..w],
-        &mut bottom[..w],
+        &mut sums[..w],
         &mut averages[..cw],
         &mut line[..cw],
         cbtaps,

@@ -19,7 +19,7 @@ use Rattle.profile.specs.Shifted.{squareOf}
 use Rattle.profile.specs.Parts.{Small}
 use Rattle.profile.proofs.Sums.{sum-ext, sum-pos, sum-bound}
 
-square-pos : (d : ℤ) → d *ℤ d ≡ pos (squareOf d)
+pub square-pos : (d : ℤ) → d *ℤ d ≡ pos (squareOf d)
 square-pos (pos n) = refl
 square-pos (negsuc n) = refl
 

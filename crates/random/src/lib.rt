@@ -5,4 +5,5 @@ mod seed;
 pub use register::Draw;
 pub use register::RandomRegister;
 pub use register::Stepped;
+pub use register::draw_from;
 pub use seed::grain_seed_for;

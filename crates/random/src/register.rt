@@ -2,6 +2,7 @@
 ghost use mathlib.Core.Path.{_≡_};
 ghost use Rattle.random.specs.Register.{step};
 
+#[repr(C)]
 pub struct RandomRegister {
     pub state: u16,
 }
@@ -65,4 +66,22 @@ impl RandomRegister {
             register: RandomRegister { state },
         }
     }
+
+    // `stepped`, in place: the draw, with the register left as it is after the step.
+    pub fn next(&mut self, bits: u32) -> Draw
+        ensures { λ r. ⌜ (r ≡ step (now (self .entry)) bits .draw) × (now (self .exit) ≡ step (now (self .entry)) bits .register) ⌝ }
+    {
+        let s = self.stepped(bits);
+        *self = s.register;
+        s.draw
+    }
+}
+
+// The first draw of the register that starts at the seed, and the register after it.
+pub fn draw_from(seed: u16, bits: u32) -> Stepped
+    ensures { λ r. ⌜ r ≡ step (record { state = seed }) bits ⌝ }
+{
+    let mut register = RandomRegister::new(seed);
+    let draw = register.next(bits);
+    Stepped { draw, register }
 }

@@ -1,6 +1,5 @@
 pub mod Column
 pub mod Answer
-pub mod Together
 pub mod Alike
 pub mod Used
 pub mod Values

@@ -7,9 +7,9 @@ use native.Mathlib.Nat.{eq-or-lt-of-le, le-of-suc-le-suc}
 use native.Mathlib.Numerals.{add-one}
 use native.Mathlib.Omega.{arith}
 use lib.Ieee.{Float, lt, le, isNan}
+use Rattle.laws.proofs.Loop.{loops-together}
 use Rattle.float.specs.Magnitude.{magnitudeOf}
 use Rattle.solve.specs.Elimination.{Matrix, cell, larger, pivotOf}
-use Rattle.solve.proofs.Together.{loops-together}
 use Rattle.solve.proofs.Order.{lt-trans, lt-irrefl, not-below, not-as-large, above-number, below-number, as-large}
 
 abbrev size : Matrix → ℕ → ℕ → Float

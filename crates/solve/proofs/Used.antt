@@ -7,10 +7,10 @@ use native.Mathlib.Omega.{arith}
 use lib.ListN.{length, getD, take, length-map, List·getD-map}
 use lib.Seq.{getD-take, length-take-le, take-nil}
 use lib.Ieee.{Float, nan, binary64, div, lt}
+use Rattle.laws.proofs.Loop.{loops-together}
 use Rattle.float.specs.Magnitude.{magnitudeOf}
 use Rattle.solve.specs.Elimination.{Row, Matrix, System, Stage, going, none, value, cell, limit, larger, pivotOf, pivoted, cellLess, rowLess, rowCleared, cleared, tested, column, eliminated, knownLess, unknownOf, placed, substituted}
 use Rattle.solve.specs.Answer.{answerOf, solvedOf}
-use Rattle.solve.proofs.Together.{loops-together}
 use Rattle.solve.proofs.Alike.{Alike, alike-set, alike-swapped}
 
 abbrev pub RowAlike : ℕ → Row → Row → Type 0

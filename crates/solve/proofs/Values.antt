@@ -7,11 +7,11 @@ use lib.ListN.{length, replicate, length-set, length-replicate, getD-replicate}
 use lib.Seq.{getD-set-other}
 use lib.Ieee.{nan}
 use Rattle.laws.specs.Scaled.{plusZero}
+use Rattle.laws.proofs.Loop.{loops-together}
 use Rattle.frame.specs.Questions.{accepted}
 use Rattle.solve.specs.declared.Solved.{Solved}
 use Rattle.solve.specs.Elimination.{Row, Matrix, System, Stage, going, none, value, placed, substituted}
 use Rattle.solve.specs.Answer.{refusalOf, unsolvedOf, answerOf, solvedOf}
-use Rattle.solve.proofs.Together.{loops-together}
 
 -- 25 values, plus zero from n on
 pub record Padded (n : ℕ) (x : Row) : Type 0 where

@@ -8,5 +8,7 @@ pub mod Correlation
 pub mod Averages
 pub mod Gates
 pub mod Random
+pub mod Reader
 pub mod Questions
 pub mod Positions
+pub mod Fit

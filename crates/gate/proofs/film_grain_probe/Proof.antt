@@ -1,5 +1,6 @@
--- `gate::film_grain_probe`: the questions, then sigma16 of the first plane, then the tests. Assumes nothing.
+-- `gate::film_grain_probe`: the questions, then the tests. Assumes nothing.
 use mathlib.Core.Path.{sym, _∙_}
+use native.Mathlib.Omega.{arith}
 use borrow.Author.Needs.{needs}
 use Rattle.frame.proofs.Accepted.{luma-gate-call}
 use Rattle.noise.proofs.Accepted.{plane-of}
@@ -13,8 +14,15 @@ luma-gate-call-requires c κs = search needs
 returns : tie.Need-returns
 returns c = luma-refused _ _ _ _ _ _ (c .before .luma-gate-call .ensures) (c .if1 .taken)
 
-plane-sigma16-requires : tie.Need-plane-sigma16-requires
-plane-sigma16-requires c κs = search needs
+sub-shift : tie.Need-sub-shift
+sub-shift c =
+    let k = c .before in
+    luma-gate-call _ _ _ _ _ (sym (k .before .luma-gate-call .ensures) ∙ k .if1 .left) .shape .depth .least
+
+cast-shift : tie.Need-cast-shift
+cast-shift c =
+    let k = c .before in
+    record { fits = omega (arith, luma-gate-call _ _ _ _ _ (sym (k .before .luma-gate-call .ensures) ∙ k .if1 .left) .shape .depth .most) }
 
 luma-finding-requires : tie.Need-luma-finding-requires
 luma-finding-requires c κs =
@@ -25,6 +33,7 @@ luma-finding-requires c κs =
       g .shape .size .wide,
       g .shape .size .high,
       g .shape .columns,
+      omega (arith, g .shape .depth .most),
     )
 
 is-passed-requires : tie.Need-is-passed-requires
@@ -33,7 +42,7 @@ is-passed-requires c κs = search needs
 returns-2 : tie.Need-returns-2
 returns-2 c =
     let k = c .before .before .before in
-    luma-answered _ _ _ _ _ _ (k .before .luma-gate-call .ensures) _ _ _ (k .if1 .left) (c .before .before .plane-sigma16 .ensures) (c .before .luma-finding .ensures) (c .is-passed .ensures)
+    luma-answered _ _ _ _ _ _ (k .before .luma-gate-call .ensures) _ _ (k .if1 .left) (c .before .luma-finding .ensures) (c .is-passed .ensures)
 
 pub film-grain-probe-spec : {M : Type 1} → statement M
 film-grain-probe-spec =
@@ -41,7 +50,8 @@ film-grain-probe-spec =
     (tie.spec
     luma-gate-call-requires
     returns
-    plane-sigma16-requires
+    sub-shift
+    cast-shift
     luma-finding-requires
     is-passed-requires
     returns-2)

@@ -1,59 +1,123 @@
--- `frame::questions::samples_low` meets its contract. The loop's invariant: the or so far answers for the samples passed. The measure is what is left of the plane. Assumes nothing.
+-- `frame::questions::samples_low` meets its contract. The invariants: the or so far answers for the samples passed, in each quarter and then from the front. The measures are what is left of a quarter and of the plane. Assumes nothing.
 use mathlib.Core.Path.{_≡_, refl}
-use Prim.Native.Nat.{_≤_, _-_}
+use Prim.Native.Nat.{_+_, _*_, _-_, _/_, _≤_}
 use native.Mathlib.Omega.{arith}
 use borrow.Author.Needs.{needs}
-use lib.ListN.{length, take}
+use lib.ListN.{length}
 use denote.Ref.{now}
-use Rattle.frame.proofs.Gathered.{Gathered, gathered-none, gathered-more, gathered-any, gathered-shifted}
+use Rattle.frame.proofs.Gathered.{Range, range-more, Quarters, quarters-none, quarters-all, Gathered, gathered-none, gathered-more, gathered-quarters, gathered-as, gathered-any, gathered-shifted}
 use Rattle.frame.proofs.questions.samples_low.Statement.{statement}
 use Rattle.frame.proofs.questions.samples_low.Tie as tie
 
 abbrev Inv-loop : tie.InvT-loop
-Inv-loop plane depth bits₀ i₀ i-end bits i = (i ≤ length plane) × (i-end ≡ length plane) × Gathered depth (take i plane) bits
+Inv-loop plane depth quarter bits₀ i₀ bits i = (quarter ≡ length plane / 4) × (i ≤ quarter) × Gathered depth plane (Quarters depth plane quarter i) bits
 
 abbrev μ-loop : tie.MeasureT-loop
-μ-loop plane depth bits₀ i₀ i-end bits i = length plane - i
+μ-loop plane depth quarter bits₀ i₀ bits i = quarter - i
 
-loop-holds : tie.Need-loop-holds Inv-loop μ-loop
-loop-holds c = (search needs, refl, gathered-none (c .args .depth))
+abbrev Inv-loop2 : tie.InvT-loop2
+Inv-loop2 plane depth quarter bits₀ i₀ i-end bits i = (i ≤ length plane) × (i-end ≡ length plane) × Gathered depth plane (Range depth plane 0 i) bits
 
-mul-bits : tie.Need-mul-bits Inv-loop μ-loop
+abbrev μ-loop2 : tie.MeasureT-loop2
+μ-loop2 plane depth quarter bits₀ i₀ i-end bits i = length plane - i
+
+loop-holds : tie.Need-loop-holds Inv-loop μ-loop Inv-loop2 μ-loop2
+loop-holds c = (refl, omega arith, gathered-none (c .args .depth) (now (c .args .plane)) (quarters-none (c .args .depth) (now (c .args .plane)) _))
+
+mul-bits : tie.Need-mul-bits Inv-loop μ-loop Inv-loop2 μ-loop2
 mul-bits c = search needs
 
-shared-slice-read-bits : tie.Need-shared-slice-read-bits Inv-loop μ-loop
+shared-slice-read-bits : tie.Need-shared-slice-read-bits Inv-loop μ-loop Inv-loop2 μ-loop2
 shared-slice-read-bits c = search needs
 
-add-i : tie.Need-add-i Inv-loop μ-loop
+add-bits : tie.Need-add-bits Inv-loop μ-loop Inv-loop2 μ-loop2
+add-bits c = search needs
+
+mul-bits-2 : tie.Need-mul-bits-2 Inv-loop μ-loop Inv-loop2 μ-loop2
+mul-bits-2 c = search needs
+
+shared-slice-read-bits-2 : tie.Need-shared-slice-read-bits-2 Inv-loop μ-loop Inv-loop2 μ-loop2
+shared-slice-read-bits-2 c = search needs
+
+mul-bits-3 : tie.Need-mul-bits-3 Inv-loop μ-loop Inv-loop2 μ-loop2
+mul-bits-3 c = search needs
+
+add-bits-2 : tie.Need-add-bits-2 Inv-loop μ-loop Inv-loop2 μ-loop2
+add-bits-2 c = search needs
+
+mul-bits-4 : tie.Need-mul-bits-4 Inv-loop μ-loop Inv-loop2 μ-loop2
+mul-bits-4 c = search needs
+
+shared-slice-read-bits-3 : tie.Need-shared-slice-read-bits-3 Inv-loop μ-loop Inv-loop2 μ-loop2
+shared-slice-read-bits-3 c = search needs
+
+mul-bits-5 : tie.Need-mul-bits-5 Inv-loop μ-loop Inv-loop2 μ-loop2
+mul-bits-5 c = search needs
+
+add-bits-3 : tie.Need-add-bits-3 Inv-loop μ-loop Inv-loop2 μ-loop2
+add-bits-3 c = search needs
+
+mul-bits-6 : tie.Need-mul-bits-6 Inv-loop μ-loop Inv-loop2 μ-loop2
+mul-bits-6 c = search needs
+
+shared-slice-read-bits-4 : tie.Need-shared-slice-read-bits-4 Inv-loop μ-loop Inv-loop2 μ-loop2
+shared-slice-read-bits-4 c = search needs
+
+add-i : tie.Need-add-i Inv-loop μ-loop Inv-loop2 μ-loop2
 add-i c = search needs
 
-loop-less : tie.Need-loop-less Inv-loop μ-loop
+loop-less : tie.Need-loop-less Inv-loop μ-loop Inv-loop2 μ-loop2
 loop-less c = search needs
 
-loop-again : tie.Need-loop-again Inv-loop μ-loop
+loop-again : tie.Need-loop-again Inv-loop μ-loop Inv-loop2 μ-loop2
 loop-again c =
-    let k = c .before .before in
-    let a = k .before .args in (
-      search needs,
-      k .loop .inv .1,
-      gathered-more (a .depth) (now (a .plane)) (k .loop .i) (k .loop .bits) (search needs)
-          (c .shared-slice-known .given (k .loop .i) .fits) (k .loop .inv .2),
-    )
+    let H = c .before .before .before .before .before .loop in
+    let a = c .before .before .before .before .before .before .args in
+    (refl, search needs, gathered-quarters (a .depth) (now (a .plane)) _ (H .i) (λ k. c .shared-slice-known4 .given k .fits) (H .inv .2))
 
-returns : tie.Need-returns Inv-loop μ-loop
+mul-i : tie.Need-mul-i Inv-loop μ-loop Inv-loop2 μ-loop2
+mul-i c = search needs
+
+loop2-holds : tie.Need-loop2-holds Inv-loop μ-loop Inv-loop2 μ-loop2
+loop2-holds c =
+    let a = c .before .before .args in
+    let H = c .before .loop in
+    (omega arith, refl, gathered-as (a .depth) (now (a .plane)) (quarters-all (a .depth) (now (a .plane)) _ (H .i) (omega arith)) (H .inv .2))
+
+mul-bits-7 : tie.Need-mul-bits-7 Inv-loop μ-loop Inv-loop2 μ-loop2
+mul-bits-7 c = search needs
+
+shared-slice-read-bits-5 : tie.Need-shared-slice-read-bits-5 Inv-loop μ-loop Inv-loop2 μ-loop2
+shared-slice-read-bits-5 c = search needs
+
+add-i-2 : tie.Need-add-i-2 Inv-loop μ-loop Inv-loop2 μ-loop2
+add-i-2 c = search needs
+
+loop2-less : tie.Need-loop2-less Inv-loop μ-loop Inv-loop2 μ-loop2
+loop2-less c = search needs
+
+loop2-again : tie.Need-loop2-again Inv-loop μ-loop Inv-loop2 μ-loop2
+loop2-again c =
+    let a = c .before .before .before .before .before .args in
+    let H = c .before .before .loop2 in
+    (search needs, H .inv .1, gathered-more (a .depth) (now (a .plane)) (H .i) (c .shared-slice-known5 .given (H .i) .fits) (H .inv .2) (range-more (a .depth) (now (a .plane)) 0 (H .i) (H .i + 1) (omega arith)))
+
+returns : tie.Need-returns Inv-loop μ-loop Inv-loop2 μ-loop2
 returns c =
-    let k = c .before .before in
-    let a = k .before .args in
-    gathered-any (a .depth) (now (a .plane)) (k .loop .i) (k .loop .bits) (omega arith) (k .loop .inv .2) (c .if1 .taken)
+    let a = c .before .before .before .before .before .args in
+    let H = c .before .before .loop2 in
+    let e : H .i ≡ length (a .plane .now) = omega arith in
+    gathered-any (a .depth) (now (a .plane)) (rw e at (H .inv .2)) (c .if1 .taken)
 
-shr-result : tie.Need-shr-result Inv-loop μ-loop
+shr-result : tie.Need-shr-result Inv-loop μ-loop Inv-loop2 μ-loop2
 shr-result c = search needs
 
-returns-2 : tie.Need-returns-2 Inv-loop μ-loop
+returns-2 : tie.Need-returns-2 Inv-loop μ-loop Inv-loop2 μ-loop2
 returns-2 c =
-    let k = c .before .before in
-    let a = k .before .args in
-    gathered-shifted (a .depth) (now (a .plane)) (k .loop .i) (k .loop .bits) (omega arith) (k .loop .inv .2)
+    let a = c .before .before .before .before .before .args in
+    let H = c .before .before .loop2 in
+    let e : H .i ≡ length (a .plane .now) = omega arith in
+    gathered-shifted (a .depth) (now (a .plane)) (H .bits) (rw e at (H .inv .2))
 
 pub samples-low-spec : {M : Type 1} → statement M
 samples-low-spec =
@@ -61,12 +125,32 @@ samples-low-spec =
     (tie.spec
     Inv-loop
     μ-loop
+    Inv-loop2
+    μ-loop2
     loop-holds
     mul-bits
     shared-slice-read-bits
+    add-bits
+    mul-bits-2
+    shared-slice-read-bits-2
+    mul-bits-3
+    add-bits-2
+    mul-bits-4
+    shared-slice-read-bits-3
+    mul-bits-5
+    add-bits-3
+    mul-bits-6
+    shared-slice-read-bits-4
     add-i
     loop-less
     loop-again
+    mul-i
+    loop2-holds
+    mul-bits-7
+    shared-slice-read-bits-5
+    add-i-2
+    loop2-less
+    loop2-again
     returns
     shr-result
     returns-2)

@@ -1,12 +1,12 @@
--- `noise::average::average_line` meets its contract: the lines are the luma rows of the chroma row, and their quarters the averages. Assumes nothing.
+-- `noise::average::average_line` meets its contract: the sums are those of the luma rows of the chroma row, and their quarters the averages. Assumes nothing.
 use mathlib.Core.Path.{ap, _∙_}
 use Prim.Native.Nat.{ℕ, _+_, _-_, _*_, _^_, min}
-use native.Mathlib.Nat.{le-trans, le-of-eq}
+use native.Mathlib.Nat.{le-trans, le-of-eq, lt-of-le-of-lt}
 use borrow.Author.Needs.{needs}
 use lib.Dec.{leb}
 use Rattle.noise.specs.Average.{subY}
 use Rattle.noise.specs.Quarters.{luma}
-use Rattle.noise.proofs.Averages.{bit-le, LumaLines, are-pairs, line-count, line-is}
+use Rattle.noise.proofs.Averages.{bit-le, RowsOf, in-height, sums-small, line-count, line-is}
 use Rattle.noise.proofs.average.average_line.Statement.{statement}
 use Rattle.noise.proofs.average.average_line.Tie as tie
 
@@ -19,37 +19,35 @@ sub-y-requires c κs = search needs
 luma-row-requires-2 : tie.Need-luma-row-requires-2
 luma-row-requires-2 c κs = (c .before .before .before .before .pre .1, le-trans (le-of-eq (c .sub-y .ensures)) (bit-le (leb (c .before .before .before .before .args .format) 1)))
 
-noise-row-requires : tie.Need-noise-row-requires
-noise-row-requires c κs = search needs
+added-rows-requires : tie.Need-added-rows-requires
+added-rows-requires c κs =
+    let S = c .before .before .before .before .before .before in
+    let inside = in-height (luma (S .args .src .now) (S .args .den .now) (S .args .w) (S .args .h) (S .args .format)) (S .pre .0) (S .args .r) (S .pre .1) in
+    (S .pre .0, lt-of-le-of-lt (le-of-eq (c .before .before .before .luma-row .ensures)) (inside _), lt-of-le-of-lt (le-of-eq (c .before .luma-row2 .ensures)) (inside _), S .pre .2)
 
-noise-row-requires-2 : tie.Need-noise-row-requires-2
-noise-row-requires-2 c κs = search needs
+-- the sums, as filled
+rows : (c : tie.After-added-rows) → let A = c .before .before .before .before .before .before .before .args in
+    RowsOf (luma (A .src .now) (A .den .now) (A .w) (A .h) (A .format)) (A .r) (c .added-rows .last .1 .1 .1 .1 .1 .1 .0)
+rows c =
+    let A = c .before .before .before .before .before .before .before .args in
+    record {
+      upper = c .before .before .before .before .luma-row .result;
+      lower = c .before .before .luma-row2 .result;
+      upper-is = c .before .before .before .before .luma-row .ensures;
+      lower-is = c .before .before .luma-row2 .ensures ∙ ap (λ (n : ℕ). min (A .r * 2 ^ subY (A .format) + n) (A .h - 1)) (c .before .before .before .sub-y .ensures);
+      sums-are = c .added-rows .ensures;
+    }
 
 sub-x-requires : tie.Need-sub-x-requires
 sub-x-requires c κs = search needs
 
--- the lines, as filled
-lines : (c : tie.After-bottom) → let A = c .before .before .before .before .before .before .before .before .before .before .before .args in
-    LumaLines (luma (A .src .now) (A .den .now) (A .w) (A .h) (A .format)) (A .r) (c .before .before .before .before .noise-row .last .1 .1 .1 .1 .1 .0) (c .before .noise-row2 .last .1 .1 .1 .1 .1 .0)
-lines c =
-    let A = c .before .before .before .before .before .before .before .before .before .before .before .args in
-    let low = c .before .before .before .before .before .before .luma-row2 in
-    record {
-      upper = c .before .before .before .before .before .before .before .before .luma-row .result;
-      lower = low .result;
-      upper-is = c .before .before .before .before .before .before .before .before .luma-row .ensures;
-      lower-is = low .ensures ∙ ap (λ (n : ℕ). min (A .r * 2 ^ subY (A .format) + n) (A .h - 1)) (c .before .before .before .before .before .before .before .sub-y .ensures);
-      top-is = c .before .before .before .before .noise-row .ensures;
-      bottom-is = c .before .noise-row2 .ensures;
-    }
-
 quarters-line-requires : tie.Need-quarters-line-requires
 quarters-line-requires c κs =
-    let S = c .before .before .before .before .before .before .before .before .before .before .before .before .before .before .before in
-    let T = lines (c .before .before .before .before) in (
+    let S = c .before .before .before .before .before .before .before .before .before .before .before in
+    let T = rows (c .before .before .before .before) in (
       le-trans (le-of-eq (c .before .sub-x .ensures)) (bit-le (leb (S .args .format) 2)),
-      are-pairs _ (S .pre .0) (S .args .r) (S .pre .1) T,
-      line-count _ (S .pre .0) (S .args .r) (S .pre .1) T (S .pre .4) (c .before .sub-x .ensures),
+      sums-small _ (S .pre .0) (S .args .r) (S .pre .1) T,
+      line-count _ (S .pre .0) (S .args .r) (S .pre .1) T (S .pre .3) (c .before .sub-x .ensures),
     )
 
 same-length : tie.Need-same-length
@@ -58,13 +56,10 @@ same-length c = search needs
 same-length-2 : tie.Need-same-length-2
 same-length-2 c = search needs
 
-same-length-3 : tie.Need-same-length-3
-same-length-3 c = search needs
-
 returns : tie.Need-returns
 returns c =
-    let S = c .before .before .before .before .before .before .before .before .before .before .before .before .before .before .before .before .before in
-    c .before .quarters-line .ensures ∙ line-is _ (S .pre .0) (S .args .r) (S .pre .1) (lines (c .before .before .before .before .before .before)) (S .pre .4) (c .before .before .before .sub-x .ensures)
+    let S = c .before .before .before .before .before .before .before .before .before .before .before .before .before in
+    c .before .quarters-line .ensures ∙ line-is _ (S .pre .0) (S .args .r) (S .pre .1) (rows (c .before .before .before .before .before .before)) (S .pre .3) (c .before .before .before .sub-x .ensures)
 
 pub average-line-spec : {M : Type 1} → statement M
 average-line-spec =
@@ -73,11 +68,9 @@ average-line-spec =
     luma-row-requires
     sub-y-requires
     luma-row-requires-2
-    noise-row-requires
-    noise-row-requires-2
+    added-rows-requires
     sub-x-requires
     quarters-line-requires
     same-length
     same-length-2
-    same-length-3
     returns)

@@ -7,6 +7,7 @@ use lib.ListN.{length, length-set}
 use mir.Syntax.{w16}
 use mir.Val.{ofZ, toZ}
 use Rattle.laws.proofs.Is.{Is, fits, again}
+use Rattle.noise.specs.Lines.{at}
 use Rattle.noise.specs.Quarters.{quartered}
 use Rattle.noise.proofs.Fill.{Filled, fill-starts, fill-turn, fill-ends}
 use Rattle.noise.proofs.Quarters.{kept-is}
@@ -14,27 +15,30 @@ use Rattle.noise.proofs.average.kept_line.Statement.{statement}
 use Rattle.noise.proofs.average.kept_line.Tie as tie
 
 abbrev Inv-loop : tie.InvT-loop
-Inv-loop top bottom line₀ i₀ line i = Filled (quartered 0 top bottom) line₀ line i
+Inv-loop sums line₀ i₀ line i = Filled (quartered 0 sums) line₀ line i
 
 abbrev μ-loop : tie.MeasureT-loop
-μ-loop top bottom line₀ i₀ line i = length line - i
+μ-loop sums line₀ i₀ line i = length line - i
 
 loop-holds : tie.Need-loop-holds Inv-loop μ-loop
 loop-holds c = fill-starts _ _
 
-pair-requires : tie.Need-pair-requires Inv-loop μ-loop
-pair-requires c κs = (c .before .before .pre .0, omega arith)
+mul-a : tie.Need-mul-a Inv-loop μ-loop
+mul-a c = search needs
+
+shared-slice-copy-out-a : tie.Need-shared-slice-copy-out-a Inv-loop μ-loop
+shared-slice-copy-out-a c = omega arith
 
 -- what a turn stores
-stored : (c : tie.After-pair Inv-loop μ-loop) → let A = c .before .before .before .args in
-    Is w16 (toZ w16 (ofZ w16 (c .pair .result)) *ℤ pos 2) (quartered 0 (A .top .now) (A .bottom .now) (c .before .before .loop .i))
-stored c = kept-is (c .before .before .before .pre .0) (c .before .before .loop .i) (c .pair .result) (omega arith) (c .pair .ensures)
+stored : (c : tie.After-a Inv-loop μ-loop) → let A = c .before .before .before .args in
+    Is w16 (toZ w16 (ofZ w16 (at (A .sums .now) (c .before .before .loop .i))) *ℤ pos 2) (quartered 0 (A .sums .now) (c .before .before .loop .i))
+stored c = kept-is _ (c .before .before .before .pre .0) (c .before .before .loop .i) (omega arith)
 
 mul-line : tie.Need-mul-line Inv-loop μ-loop
 mul-line c = fits (stored c)
 
-mul-t6 : tie.Need-mul-t6 Inv-loop μ-loop
-mul-t6 c = search needs
+mul-t5 : tie.Need-mul-t5 Inv-loop μ-loop
+mul-t5 c = search needs
 
 slice-set-from-line : tie.Need-slice-set-from-line Inv-loop μ-loop
 slice-set-from-line c = search needs
@@ -61,9 +65,10 @@ kept-line-spec =
     Inv-loop
     μ-loop
     loop-holds
-    pair-requires
+    mul-a
+    shared-slice-copy-out-a
     mul-line
-    mul-t6
+    mul-t5
     slice-set-from-line
     add-i
     loop-less

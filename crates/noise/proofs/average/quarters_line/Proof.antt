@@ -16,12 +16,12 @@ one sub h k = omega arith
 kept-line-requires : tie.Need-kept-line-requires
 kept-line-requires c κs =
     let S = c .before .before in
-    (S .pre .1, subst (λ (s : ℕ). length (S .args .line .now) ≡ columns s (length (S .args .top .now))) (c .before .if1 .taken) (S .pre .2))
+    (S .pre .1, subst (λ (s : ℕ). length (S .args .line .now) ≡ columns s (length (S .args .sums .now))) (c .before .if1 .taken) (S .pre .2))
 
 halved-line-requires : tie.Need-halved-line-requires
 halved-line-requires c κs =
     let S = c .before .before in
-    (S .pre .1, subst (λ (s : ℕ). length (S .args .line .now) ≡ columns s (length (S .args .top .now))) (one (S .args .sub) (S .pre .0) (c .before .if1 .left)) (S .pre .2))
+    (S .pre .1, subst (λ (s : ℕ). length (S .args .line .now) ≡ columns s (length (S .args .sums .now))) (one (S .args .sub) (S .pre .0) (c .before .if1 .left)) (S .pre .2))
 
 same-length : tie.Need-same-length
 same-length c = search needs
@@ -30,7 +30,7 @@ returns : tie.Need-returns
 returns c =
     let S = c .before .before .before .before in
     let A = S .args in
-    subst (λ (s : ℕ). c .before .kept-line .last .1 .1 .0 ≡ tabulate (length (A .line .now)) (quartered s (A .top .now) (A .bottom .now)))
+    subst (λ (s : ℕ). c .before .kept-line .last .1 .0 ≡ tabulate (length (A .line .now)) (quartered s (A .sums .now)))
     (sym (c .before .before .before .if1 .taken)) (c .before .kept-line .ensures)
 
 same-length-2 : tie.Need-same-length-2
@@ -40,7 +40,7 @@ returns-2 : tie.Need-returns-2
 returns-2 c =
     let S = c .before .before .before .before in
     let A = S .args in
-    subst (λ (s : ℕ). c .before .halved-line .last .1 .1 .0 ≡ tabulate (length (A .line .now)) (quartered s (A .top .now) (A .bottom .now)))
+    subst (λ (s : ℕ). c .before .halved-line .last .1 .0 ≡ tabulate (length (A .line .now)) (quartered s (A .sums .now)))
     (sym (one (S .args .sub) (S .pre .0) (c .before .before .before .if1 .left))) (c .before .halved-line .ensures)
 
 pub quarters-line-spec : {M : Type 1} → statement M

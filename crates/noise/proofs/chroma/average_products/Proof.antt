@@ -13,39 +13,22 @@ blank-line-requires c κs = search needs
 blank-line-requires-2 : tie.Need-blank-line-requires-2
 blank-line-requires-2 c κs = search needs
 
-blank-line-requires-3 : tie.Need-blank-line-requires-3
-blank-line-requires-3 c κs = search needs
-
-blank-line-requires-4 : tie.Need-blank-line-requires-4
-blank-line-requires-4 c κs = search needs
-
-array-borrow-prefix-top : tie.Need-array-borrow-prefix-top
-array-borrow-prefix-top c = search needs
+array-borrow-prefix-sums : tie.Need-array-borrow-prefix-sums
+array-borrow-prefix-sums c = search needs
 
 slice-aggregate-average-rows : tie.Need-slice-aggregate-average-rows
-slice-aggregate-average-rows c = sym (length-take-le (c .before .before .before .before .before .before .before .before .before .args .w) (c .before .before .before .before .blank-line .result) (search needs))
+slice-aggregate-average-rows c = sym (length-take-le (c .before .before .before .before .before .before .before .before .before .args .w) (c .before .before .blank-line .result) (search needs))
 
-array-borrow-prefix-bottom : tie.Need-array-borrow-prefix-bottom
-array-borrow-prefix-bottom c = search needs
+array-borrow-prefix-averages : tie.Need-array-borrow-prefix-averages
+array-borrow-prefix-averages c = omega (arith, narrow _ (c .before .before .before .before .before .before .before .before .before .pre .0))
 
 slice-aggregate-average-rows-2 : tie.Need-slice-aggregate-average-rows-2
-slice-aggregate-average-rows-2 c = sym (length-take-le (c .before .before .before .before .before .before .before .before .before .before .args .w) (c .before .before .before .before .blank-line2 .result) (search needs))
-
-array-borrow-prefix-line : tie.Need-array-borrow-prefix-line
-array-borrow-prefix-line c = omega (arith, narrow _ (c .before .before .before .before .before .before .before .before .before .before .pre))
-
-slice-aggregate-average-rows-3 : tie.Need-slice-aggregate-average-rows-3
-slice-aggregate-average-rows-3 c = sym (length-take-le (c .before .before .before .before .before .before .before .before .before .before .before .args .cw) (c .before .before .before .before .blank-line3 .result) (omega (arith, narrow _ (c .before .before .before .before .before .before .before .before .before .before .before .pre))))
-
-array-borrow-prefix-chroma : tie.Need-array-borrow-prefix-chroma
-array-borrow-prefix-chroma c = omega (arith, narrow _ (c .before .before .before .before .before .before .before .before .before .before .before .pre))
-
-slice-aggregate-average-rows-4 : tie.Need-slice-aggregate-average-rows-4
-slice-aggregate-average-rows-4 c = sym (length-take-le (c .before .before .before .before .before .before .before .before .before .before .before .before .args .cw) (c .before .before .before .before .blank-line4 .result) (omega (arith, narrow _ (c .before .before .before .before .before .before .before .before .before .before .before .before .pre))))
+slice-aggregate-average-rows-2 c = sym (length-take-le (c .before .before .before .before .before .before .before .before .before .before .args .cw) (c .before .before .blank-line2 .result) (omega (arith, narrow _ (c .before .before .before .before .before .before .before .before .before .before .pre .0))))
 
 average-rows-requires : tie.Need-average-rows-requires
 average-rows-requires c κs =
-    (c .before .before .before .before .before .before .before .before .before .before .before .before .pre, sym (slice-aggregate-average-rows (c .before .before .before)), sym (slice-aggregate-average-rows-2 (c .before .before)), sym (slice-aggregate-average-rows-3 (c .before)), sym (slice-aggregate-average-rows-4 c))
+    let S = c .before .before .before .before .before .before .before .before .before .before in
+    (S .pre .0, S .pre .1, sym (slice-aggregate-average-rows (c .before)), sym (slice-aggregate-average-rows-2 c))
 
 returns : tie.Need-returns
 returns c = search needs
@@ -56,15 +39,9 @@ average-products-spec =
     (tie.spec
     blank-line-requires
     blank-line-requires-2
-    blank-line-requires-3
-    blank-line-requires-4
-    array-borrow-prefix-top
+    array-borrow-prefix-sums
     slice-aggregate-average-rows
-    array-borrow-prefix-bottom
+    array-borrow-prefix-averages
     slice-aggregate-average-rows-2
-    array-borrow-prefix-line
-    slice-aggregate-average-rows-3
-    array-borrow-prefix-chroma
-    slice-aggregate-average-rows-4
     average-rows-requires
     returns)

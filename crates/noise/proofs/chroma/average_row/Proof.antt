@@ -1,28 +1,26 @@
--- `noise::chroma::average_row` meets its contract: the lines hold the averages and the chroma noise, and the dot products sum theirs. Assumes nothing.
+-- `noise::chroma::average_row` meets its contract: the line holds the averages, and each sum is of their products. Assumes nothing.
 use mathlib.Core.Path.{_∙_}
 use borrow.Author.Needs.{needs}
 use Rattle.laws.proofs.Is.{again, self}
-use Rattle.noise.proofs.ChromaSums.{row-in, columns-are, squares-lines, squares-sum, products-lines, products-sum}
+use Rattle.noise.proofs.ChromaSums.{row-in, columns-are, averages-along, squares-lines, squares-sum, products-sum}
 use Rattle.noise.proofs.chroma.average_row.Statement.{statement}
 use Rattle.noise.proofs.chroma.average_row.Tie as tie
 
 average-line-requires : tie.Need-average-line-requires
 average-line-requires c κs =
-    let S = c .before .before .before .before .before .before .before in
-    (S .pre .0 .of-luma, row-in _ (S .pre .0) (S .args .r) (S .pre .1), S .pre .2, S .pre .3, S .pre .4 ∙ columns-are _ (S .pre .0) (S .args .r) (S .pre .1))
-
-noise-row-requires : tie.Need-noise-row-requires
-noise-row-requires c κs = search needs
+    let S = c .before .before .before .before .before .before .before .before in
+    (S .pre .0 .of-luma, row-in _ (S .pre .0) (S .args .r) (S .pre .2), S .pre .3, S .pre .4 ∙ columns-are _ (S .pre .0) (S .args .r) (S .pre .2))
 
 dot-wide-requires : tie.Need-dot-wide-requires
 dot-wide-requires c κs =
-    let S = c .before .before .before .before .before .before .before .before .before .before .before .before .before .before .before in
-    squares-lines _ (S .pre .0) (S .args .r) (S .pre .1) (c .before .before .before .before .before .before .before .average-line .ensures)
+    let S = c .before .before .before .before .before .before .before .before .before .before .before .before in
+    squares-lines _ (S .pre .0) (S .args .r) (S .pre .2) (c .before .before .before .average-line .ensures)
 
-dot-requires : tie.Need-dot-requires
-dot-requires c κs =
-    let S = c .before .before .before .before .before .before .before .before .before .before .before .before .before .before .before .before .before in
-    products-lines _ (S .pre .0) (S .args .r) (S .pre .1) (c .before .before .before .before .before .before .before .before .before .average-line .ensures) (c .before .before .before .before .noise-row .ensures)
+average-noise-requires : tie.Need-average-noise-requires
+average-noise-requires c κs = let S = c .before .before .before .before .before .before .before .before .before .before .before .before .before in averages-along _ (S .pre .0) (S .args .r) (S .pre .2) (c .before .before .before .before .average-line .ensures)
+
+average-noise-requires-2 : tie.Need-average-noise-requires-2
+average-noise-requires-2 c κs = let S = c .before .before .before .before .before .before .before .before .before .before .before .before .before .before in averages-along _ (S .pre .1) (S .args .r) (S .pre .2) (c .before .before .before .before .before .average-line .ensures)
 
 same-length : tie.Need-same-length
 same-length c = search needs
@@ -30,17 +28,16 @@ same-length c = search needs
 same-length-2 : tie.Need-same-length-2
 same-length-2 c = search needs
 
-same-length-3 : tie.Need-same-length-3
-same-length-3 c = search needs
-
-same-length-4 : tie.Need-same-length-4
-same-length-4 c = search needs
-
 returns : tie.Need-returns
 returns c =
-    let S = c .before .before .before .before .before .before .before .before .before .before .before .before .before .before .before .before .before .before in (
-      again (self (record { sfits = c .before .before .dot-wide .ok })) .eq ∙ c .before .before .dot-wide .ensures ∙ squares-sum _ (S .pre .0) (S .args .r) (S .pre .1) (c .before .before .before .before .before .before .before .before .before .before .average-line .ensures),
-      again (self (record { sfits = c .dot .ok })) .eq ∙ c .dot .ensures ∙ products-sum _ (S .pre .0) (S .args .r) (S .pre .1) (c .before .before .before .before .before .before .before .before .before .before .average-line .ensures) (c .before .before .before .before .before .noise-row .ensures),
+    let S = c .before .before .before .before .before .before .before .before .before .before .before .before .before .before .before in
+    let e = c .before .before .before .before .before .before .average-line .ensures in
+    let squares = c .before .before .dot-wide in
+    let blue = c .before .average-noise in
+    let red = c .average-noise2 in (
+      again (self (record { sfits = squares .ok })) .eq ∙ squares .ensures ∙ squares-sum _ (S .pre .0) (S .args .r) (S .pre .2) e,
+      again (self (record { sfits = blue .ok })) .eq ∙ blue .ensures ∙ products-sum _ (S .pre .0) (S .args .r) (S .pre .2) e,
+      again (self (record { sfits = red .ok })) .eq ∙ red .ensures ∙ products-sum _ (S .pre .1) (S .args .r) (S .pre .2) e,
     )
 
 pub average-row-spec : {M : Type 1} → statement M
@@ -48,11 +45,9 @@ average-row-spec =
     tie.close
     (tie.spec
     average-line-requires
-    noise-row-requires
     dot-wide-requires
-    dot-requires
+    average-noise-requires
+    average-noise-requires-2
     same-length
     same-length-2
-    same-length-3
-    same-length-4
     returns)

@@ -18,21 +18,21 @@ next : (r : ℕ) → r < r + 1
 next r = omega arith
 
 -- the line holds the averages
-filled : (c : tie.After-average-line) → let A = c .before .before .before .before .before .before .args in
-    c .average-line .last .1 .1 .1 .1 .1 .1 .1 .1 .0 ≡ tabulate (length (A .averages .now)) (quarters (luma (A .src .now) (A .den .now) (A .w) (A .h) (A .format)) (A .r))
-filled c = let S = c .before .before .before .before .before .before in averages-are _ (S .pre .0) (S .args .r) (next (S .args .r)) (c .average-line .ensures)
+filled : (c : tie.After-average-line) → let A = c .before .before .before .before .before .args in
+    c .average-line .last .1 .1 .1 .1 .1 .1 .1 .0 ≡ tabulate (length (A .averages .now)) (quarters (luma (A .src .now) (A .den .now) (A .w) (A .h) (A .format)) (A .r))
+filled c = let S = c .before .before .before .before .before in averages-are _ (S .pre .0) (S .args .r) (next (S .args .r)) (c .average-line .ensures)
 
 average-line-requires : tie.Need-average-line-requires
 average-line-requires c κs =
-    let S = c .before .before .before .before .before in
-    (S .pre .0 .plane, S .pre .0 .rows-in (S .args .r) (next (S .args .r)), S .pre .1, S .pre .2, S .pre .0 .columns-are)
+    let S = c .before .before .before .before in
+    (S .pre .0 .plane, S .pre .0 .rows-in (S .args .r) (next (S .args .r)), S .pre .1, S .pre .0 .columns-are)
 
 square-sum-requires : tie.Need-square-sum-requires
 square-sum-requires c κs =
-    let S = c .before .before .before .before .before .before .before .before .before .before in (
-      le-trans (S .pre .3) (le-of-eq (sym (size _ _ (filled (c .before .before .before .before))))),
-      S .pre .4,
-      averages-small _ (S .pre .0) (S .args .r) (next (S .args .r)) (filled (c .before .before .before .before)),
+    let S = c .before .before .before .before .before .before .before .before in (
+      le-trans (S .pre .2) (le-of-eq (sym (size _ _ (filled (c .before .before .before))))),
+      S .pre .3,
+      averages-small _ (S .pre .0) (S .args .r) (next (S .args .r)) (filled (c .before .before .before)),
     )
 
 same-length : tie.Need-same-length
@@ -41,14 +41,11 @@ same-length c = search needs
 same-length-2 : tie.Need-same-length-2
 same-length-2 c = search needs
 
-same-length-3 : tie.Need-same-length-3
-same-length-3 c = search needs
-
 returns : tie.Need-returns
 returns c =
-    let S = c .before .before .before .before .before .before .before .before .before .before .before in (
-      kept (record { sfits = c .square-sum .ok }) (c .square-sum .ensures ∙ squares-are _ (S .pre .0) (S .args .r) (next (S .args .r)) (filled (c .before .before .before .before .before)) (S .args .n) (S .args .lag) (S .pre .3)),
-      filled (c .before .before .before .before .before),
+    let S = c .before .before .before .before .before .before .before .before .before in (
+      kept (record { sfits = c .square-sum .ok }) (c .square-sum .ensures ∙ squares-are _ (S .pre .0) (S .args .r) (next (S .args .r)) (filled (c .before .before .before .before)) (S .args .n) (S .args .lag) (S .pre .2)),
+      filled (c .before .before .before .before),
     )
 
 pub average-squares-spec : {M : Type 1} → statement M
@@ -59,5 +56,4 @@ average-squares-spec =
     square-sum-requires
     same-length
     same-length-2
-    same-length-3
     returns)

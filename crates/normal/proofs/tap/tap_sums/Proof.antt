@@ -16,49 +16,39 @@ blank-line-requires-2 c κs = search needs
 blank-line-requires-3 : tie.Need-blank-line-requires-3
 blank-line-requires-3 c κs = search needs
 
-blank-line-requires-4 : tie.Need-blank-line-requires-4
-blank-line-requires-4 c κs = search needs
-
 clear-requires : tie.Need-clear-requires
 clear-requires c κs = search needs
 
 clear-requires-2 : tie.Need-clear-requires-2
 clear-requires-2 c κs = search needs
 
-array-borrow-prefix-top : tie.Need-array-borrow-prefix-top
-array-borrow-prefix-top c = search needs
+array-borrow-prefix-sums : tie.Need-array-borrow-prefix-sums
+array-borrow-prefix-sums c = search needs
 
 slice-aggregate-tap-rows : tie.Need-slice-aggregate-tap-rows
-slice-aggregate-tap-rows c = sym (length-take-le (c .before .before .before .before .before .before .before .before .before .before .before .before .before .before .before .before .before .args .w) (c .before .before .before .before .before .before .before .before .before .before .blank-line .result) (array-borrow-prefix-top (c .before)))
-
-array-borrow-prefix-bottom : tie.Need-array-borrow-prefix-bottom
-array-borrow-prefix-bottom c = search needs
-
-slice-aggregate-tap-rows-2 : tie.Need-slice-aggregate-tap-rows-2
-slice-aggregate-tap-rows-2 c = sym (length-take-le (c .before .before .before .before .before .before .before .before .before .before .before .before .before .before .before .before .before .before .args .w) (c .before .before .before .before .before .before .before .before .before .before .blank-line2 .result) (array-borrow-prefix-bottom (c .before)))
+slice-aggregate-tap-rows c = sym (length-take-le (c .before .before .before .before .before .before .before .before .before .before .before .before .before .before .before .before .args .w) (c .before .before .before .before .before .before .before .before .before .blank-line .result) (array-borrow-prefix-sums (c .before)))
 
 array-borrow-prefix-averages : tie.Need-array-borrow-prefix-averages
 array-borrow-prefix-averages c = search needs
 
-slice-aggregate-tap-rows-3 : tie.Need-slice-aggregate-tap-rows-3
-slice-aggregate-tap-rows-3 c = sym (length-take-le (c .before .before .before .before .before .before .before .before .before .before .before .before .before .before .before .before .before .before .before .args .cw) (c .before .before .before .before .before .before .before .before .before .before .blank-line3 .result) (array-borrow-prefix-averages (c .before)))
+slice-aggregate-tap-rows-2 : tie.Need-slice-aggregate-tap-rows-2
+slice-aggregate-tap-rows-2 c = sym (length-take-le (c .before .before .before .before .before .before .before .before .before .before .before .before .before .before .before .before .before .args .cw) (c .before .before .before .before .before .before .before .before .before .blank-line2 .result) (array-borrow-prefix-averages (c .before)))
 
 array-borrow-prefix-line : tie.Need-array-borrow-prefix-line
 array-borrow-prefix-line c = search needs
 
-slice-aggregate-tap-rows-4 : tie.Need-slice-aggregate-tap-rows-4
-slice-aggregate-tap-rows-4 c = sym (length-take-le (c .before .before .before .before .before .before .before .before .before .before .before .before .before .before .before .before .before .before .before .before .args .cw) (c .before .before .before .before .before .before .before .before .before .before .blank-line4 .result) (array-borrow-prefix-line (c .before)))
+slice-aggregate-tap-rows-3 : tie.Need-slice-aggregate-tap-rows-3
+slice-aggregate-tap-rows-3 c = sym (length-take-le (c .before .before .before .before .before .before .before .before .before .before .before .before .before .before .before .before .before .before .args .cw) (c .before .before .before .before .before .before .before .before .before .blank-line3 .result) (array-borrow-prefix-line (c .before)))
 
 tap-rows-requires : tie.Need-tap-rows-requires
 tap-rows-requires c κs =
-    let S = c .before .before .before .before .before .before .before .before .before .before .before .before .before .before .before .before .before .before .before .before .before .before in (
+    let S = c .before .before .before .before .before .before .before .before .before .before .before .before .before .before .before .before .before .before .before .before in (
       S .pre .0,
-      sym (slice-aggregate-tap-rows (c .before .before .before .before .before)),
-      sym (slice-aggregate-tap-rows-2 (c .before .before .before .before)),
-      sym (slice-aggregate-tap-rows-3 (c .before .before .before)),
-      sym (slice-aggregate-tap-rows-4 (c .before .before)),
-      subst (λ (m : ℕ). Zeros m (c .before .before .before .before .before .before .before .before .before .before .clear .last .0)) (S .pre .1) (c .before .before .before .before .before .before .before .before .before .before .clear .ensures),
-      subst (λ (m : ℕ). Zeros m (c .before .before .before .before .before .before .before .clear2 .last .0)) (S .pre .2) (c .before .before .before .before .before .before .before .clear2 .ensures),
+      sym (slice-aggregate-tap-rows (c .before .before .before .before)),
+      sym (slice-aggregate-tap-rows-2 (c .before .before .before)),
+      sym (slice-aggregate-tap-rows-3 (c .before .before)),
+      subst (λ (m : ℕ). Zeros m (c .before .before .before .before .before .before .before .before .before .clear .last .0)) (S .pre .1) (c .before .before .before .before .before .before .before .before .before .clear .ensures),
+      subst (λ (m : ℕ). Zeros m (c .before .before .before .before .before .before .clear2 .last .0)) (S .pre .2) (c .before .before .before .before .before .before .clear2 .ensures),
     )
 
 same-length : tie.Need-same-length
@@ -77,17 +67,14 @@ tap-sums-spec =
     blank-line-requires
     blank-line-requires-2
     blank-line-requires-3
-    blank-line-requires-4
     clear-requires
     clear-requires-2
-    array-borrow-prefix-top
+    array-borrow-prefix-sums
     slice-aggregate-tap-rows
-    array-borrow-prefix-bottom
-    slice-aggregate-tap-rows-2
     array-borrow-prefix-averages
-    slice-aggregate-tap-rows-3
+    slice-aggregate-tap-rows-2
     array-borrow-prefix-line
-    slice-aggregate-tap-rows-4
+    slice-aggregate-tap-rows-3
     tap-rows-requires
     same-length
     same-length-2

@@ -1,0 +1,64 @@
+-- The coefficients from the solver's answer; and equal sums make equal equations. Assumes nothing.
+use mathlib.Core.Path.{_≡_, refl, ap, _∙_}
+use mathlib.Core.Bool.{Bool, true, false, cond}
+use mathlib.Core.List.{List}
+use Prim.Native.Nat.{ℕ, _≤_, _<_}
+use native.Mathlib.Nat.{le-of-lt}
+use lib.Dec.{leb}
+use lib.IntN.{ℤ}
+use lib.Ieee.{Float}
+use borrow.Author.Tests.{leb-true, leb-false}
+use Rattle.laws.specs.Scaled.{plusZero}
+use Rattle.laws.proofs.Table.{tabulate-same}
+use Rattle.solve.specs.Elimination.{Row, Matrix}
+use Rattle.solve.specs.Answer.{solvedOf}
+use Rattle.solve.specs.declared.Solved.{Solved}
+use Rattle.fit.specs.Steps.{cellOf, rowOf, matrixOf, valueOf, rightOf, zeros, quantised, coefficientsOf}
+use Rattle.fit.specs.Sums.{sumAt, rightAt, exactFit}
+
+module _ (sums taps : List ℤ) (squares : Float) (n p : ℕ) (a : Matrix) (b : Row) (r : Solved)
+    (ea : a ≡ matrixOf (sumAt sums taps squares n) p) (eb : b ≡ rightOf (rightAt sums taps n) p) (er : r ≡ solvedOf a b p) where
+  pub solution : r .found ≡ true → (x : List ℤ) → x ≡ quantised (r .solution .values) → x ≡ exactFit sums taps squares n p
+  unfolding exactFit coefficientsOf
+  solution f x e = rw (← ea, ← eb, ← er, f) e
+
+  pub no-solution : r .found ≡ false → zeros ≡ exactFit sums taps squares n p
+  unfolding exactFit coefficientsOf
+  no-solution f = rw (← ea, ← eb, ← er, f)
+
+-- ---- the same sums
+pub with-sums : (sums sums′ taps : List ℤ) (squares : Float) (n p : ℕ) (r : List ℤ) → sums ≡ sums′ → r ≡ exactFit sums taps squares n p → r ≡ exactFit sums′ taps squares n p
+with-sums sums sums′ taps squares n p r e d = d ∙ ap (λ (z : List ℤ). exactFit z taps squares n p) e
+
+module _ (sum sum′ : ℕ → ℕ → Float) (p : ℕ) (same : (i j : ℕ) → i ≤ j → j < p → sum i j ≡ sum′ i j) where
+  cell-same : (i j : ℕ) → cellOf sum p i j ≡ cellOf sum′ p i j
+  unfolding cellOf
+  cell-same i j = go (leb p i) (leb p j) (leb i j) refl refl refl
+    where
+      go : (a b c : Bool) → leb p i ≡ a → leb p j ≡ b → leb i j ≡ c
+          → cond a plusZero (cond b plusZero (cond c (sum i j) (sum j i))) ≡ cond a plusZero (cond b plusZero (cond c (sum′ i j) (sum′ j i)))
+      go true b c d e f = refl
+      go false true c d e f = refl
+      go false false true d e f = same i j (leb-true i j f) (leb-false p j e)
+      go false false false d e f = same j i (le-of-lt (leb-false i j f)) (leb-false p i d)
+
+  row-same : (i : ℕ) → rowOf sum p i ≡ rowOf sum′ p i
+  unfolding rowOf
+  row-same i = tabulate-same 25 (cellOf sum p i) (cellOf sum′ p i) (λ j l. cell-same i j)
+
+  pub matrix-same : matrixOf sum p ≡ matrixOf sum′ p
+  unfolding matrixOf
+  matrix-same = tabulate-same 25 (rowOf sum p) (rowOf sum′ p) (λ i l. row-same i)
+
+module _ (sum sum′ : ℕ → Float) (p : ℕ) (same : (i : ℕ) → i < p → sum i ≡ sum′ i) where
+  value-same : (i : ℕ) → valueOf sum p i ≡ valueOf sum′ p i
+  unfolding valueOf
+  value-same i = go (leb p i) refl
+    where
+      go : (a : Bool) → leb p i ≡ a → cond a plusZero (sum i) ≡ cond a plusZero (sum′ i)
+      go true e = refl
+      go false e = same i (leb-false p i e)
+
+  pub right-same : rightOf sum p ≡ rightOf sum′ p
+  unfolding rightOf
+  right-same = tabulate-same 25 (valueOf sum p) (valueOf sum′ p) (λ i l. value-same i)

@@ -1,0 +1,54 @@
+-- `fit::equations::matrix` meets its contract: filled from the front, row by row. Assumes nothing.
+use Prim.Native.Nat.{_-_}
+use borrow.Author.Needs.{needs}
+use Rattle.noise.proofs.Fill.{Filled, fill-starts, fill-turn, fill-ends}
+use Rattle.fit.specs.Steps.{rowOf, matrixOf}
+use Rattle.fit.specs.Sums.{sumAt}
+use Rattle.fit.proofs.equations.matrix.Statement.{statement}
+use Rattle.fit.proofs.equations.matrix.Tie as tie
+
+abbrev Inv-loop : tie.InvT-loop
+Inv-loop sums taps squares n p m₀ i₀ m i = Filled (rowOf (sumAt sums taps squares n) p) m₀ m i
+
+abbrev μ-loop : tie.MeasureT-loop
+μ-loop sums taps squares n p m₀ i₀ m i = 25 - i
+
+loop-holds : tie.Need-loop-holds Inv-loop μ-loop
+loop-holds c = fill-starts _ _
+
+matrix-row-requires : tie.Need-matrix-row-requires Inv-loop μ-loop
+matrix-row-requires c κs = search needs
+
+mul-m : tie.Need-mul-m Inv-loop μ-loop
+mul-m c = search needs
+
+array-set-from-m : tie.Need-array-set-from-m Inv-loop μ-loop
+array-set-from-m c = search needs
+
+add-i : tie.Need-add-i Inv-loop μ-loop
+add-i c = search needs
+
+loop-less : tie.Need-loop-less Inv-loop μ-loop
+loop-less c = search needs
+
+loop-again : tie.Need-loop-again Inv-loop μ-loop
+loop-again c = fill-turn _ _ _ (c .before .before .loop .inv) (search needs) (c .matrix-row .ensures)
+
+returns : tie.Need-returns Inv-loop μ-loop
+unfolding matrixOf
+returns c = fill-ends _ _ (c .before .loop .inv) (c .loop-test .left)
+
+pub matrix-spec : {M : Type 1} → statement M
+matrix-spec =
+    tie.close
+    (tie.spec
+    Inv-loop
+    μ-loop
+    loop-holds
+    matrix-row-requires
+    mul-m
+    array-set-from-m
+    add-i
+    loop-less
+    loop-again
+    returns)

@@ -1,0 +1,54 @@
+-- `fit::equations::right_side` meets its contract: filled from the front. Assumes nothing.
+use Prim.Native.Nat.{_-_}
+use borrow.Author.Needs.{needs}
+use Rattle.noise.proofs.Fill.{Filled, fill-starts, fill-turn, fill-ends}
+use Rattle.fit.specs.Steps.{valueOf, rightOf}
+use Rattle.fit.specs.Sums.{rightAt}
+use Rattle.fit.proofs.equations.right_side.Statement.{statement}
+use Rattle.fit.proofs.equations.right_side.Tie as tie
+
+abbrev Inv-loop : tie.InvT-loop
+Inv-loop sums taps n p right₀ i₀ right i = Filled (valueOf (rightAt sums taps n) p) right₀ right i
+
+abbrev μ-loop : tie.MeasureT-loop
+μ-loop sums taps n p right₀ i₀ right i = 25 - i
+
+loop-holds : tie.Need-loop-holds Inv-loop μ-loop
+loop-holds c = fill-starts _ _
+
+right-value-requires : tie.Need-right-value-requires Inv-loop μ-loop
+right-value-requires c κs = search needs
+
+mul-right : tie.Need-mul-right Inv-loop μ-loop
+mul-right c = search needs
+
+array-write-right : tie.Need-array-write-right Inv-loop μ-loop
+array-write-right c = search needs
+
+add-i : tie.Need-add-i Inv-loop μ-loop
+add-i c = search needs
+
+loop-less : tie.Need-loop-less Inv-loop μ-loop
+loop-less c = search needs
+
+loop-again : tie.Need-loop-again Inv-loop μ-loop
+loop-again c = fill-turn _ _ _ (c .before .before .loop .inv) (search needs) (c .right-value .ensures)
+
+returns : tie.Need-returns Inv-loop μ-loop
+unfolding rightOf
+returns c = fill-ends _ _ (c .before .loop .inv) (c .loop-test .left)
+
+pub right-side-spec : {M : Type 1} → statement M
+right-side-spec =
+    tie.close
+    (tie.spec
+    Inv-loop
+    μ-loop
+    loop-holds
+    right-value-requires
+    mul-right
+    array-write-right
+    add-i
+    loop-less
+    loop-again
+    returns)

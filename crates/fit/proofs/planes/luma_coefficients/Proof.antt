@@ -1,0 +1,80 @@
+-- `fit::planes::luma_coefficients` meets its contract: the plane's sums, its energy, then the coefficients. Assumes nothing.
+use mathlib.Core.Path.{_∙_}
+use native.Mathlib.Nat.{le-of-lt}
+use native.Mathlib.Omega.{arith}
+use Rattle.normal.proofs.Callers.{rows, window}
+use Rattle.fit.proofs.Rooms.{room}
+use Rattle.fit.proofs.LumaSteps.{flat, solved, energy-read}
+use borrow.Author.Needs.{needs}
+use Rattle.fit.proofs.planes.luma_coefficients.Statement.{statement}
+use Rattle.fit.proofs.planes.luma_coefficients.Tie as tie
+
+plane-sums-requires : tie.Need-plane-sums-requires
+plane-sums-requires c κs = let k = c .before .before .before in (rows (k .pre .0), window _ _ _ (k .pre .6) (le-of-lt (k .pre .1)) (le-of-lt (k .pre .2)) (k .pre .3) (k .pre .4), k .pre .8)
+
+mul-n : tie.Need-mul-n
+mul-n c = search needs
+
+add-n : tie.Need-add-n
+add-n c = search needs
+
+mul-n-2 : tie.Need-mul-n-2
+mul-n-2 c = search needs
+
+add-energy : tie.Need-add-energy
+add-energy c = search needs
+
+mul-energy : tie.Need-mul-energy
+mul-energy c = search needs
+
+add-energy-2 : tie.Need-add-energy-2
+add-energy-2 c = search needs
+
+mul-energy-2 : tie.Need-mul-energy-2
+mul-energy-2 c = search needs
+
+slice-copy-out-energy : tie.Need-slice-copy-out-energy
+slice-copy-out-energy c = search needs
+
+nearest-i64-to-f64-requires : tie.Need-nearest-i64-to-f64-requires
+nearest-i64-to-f64-requires c κs = search needs
+
+same-length : tie.Need-same-length
+same-length c = search needs
+
+returns : tie.Need-returns
+returns c =
+    let k = c .before .before .before .before .before .before .before .before .pre in
+    flat _ _ _ _ _ (λ z. omega arith) (k .1) (k .2) _ (energy-read _ _ _ _ _ (k .0) (k .3) (k .4) _ (c .before .before .before .before .plane-sums .ensures) (record { sfits = c .before .before .energy .given }) _ (c .before .nearest-i64-to-f64 .ensures)) (c .if1 .taken)
+
+coefficients-requires : tie.Need-coefficients-requires
+coefficients-requires c κs = let k = c .before .before .before .before .before .before .before .before .before .pre in (room (k .6) (c .before .before .before .before .before .plane-sums .kept .1 .1 .1 .1 .1 .1 .0 ∙ k .8) (k .7), search needs)
+
+same-length-2 : tie.Need-same-length-2
+same-length-2 c = search needs
+
+returns-2 : tie.Need-returns-2
+returns-2 c =
+    let k = c .before .before .before .before .before .before .before .before .before .before .pre in
+    let s = c .before .before .before .before .before .before in
+    solved _ _ _ _ _ (λ z. omega arith) (k .1) (k .2) _ (energy-read _ _ _ _ _ (k .0) (k .3) (k .4) _ (s .plane-sums .ensures) (record { sfits = c .before .before .before .before .energy .given }) _ (c .before .before .before .nearest-i64-to-f64 .ensures)) (k .0) (k .3) (k .4) (c .before .before .if1 .left) _ _ _ _ (s .plane-sums .ensures) (c .coefficients .ensures)
+
+pub luma-coefficients-spec : {M : Type 1} → statement M
+luma-coefficients-spec =
+    tie.close
+    (tie.spec
+    plane-sums-requires
+    mul-n
+    add-n
+    mul-n-2
+    add-energy
+    mul-energy
+    add-energy-2
+    mul-energy-2
+    slice-copy-out-energy
+    nearest-i64-to-f64-requires
+    same-length
+    returns
+    coefficients-requires
+    same-length-2
+    returns-2)

@@ -1,0 +1,4 @@
+pub mod Steps
+pub mod Answer
+pub mod Sums
+pub mod Words

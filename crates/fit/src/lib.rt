@@ -1,0 +1,110 @@
+// The auto-regressive coefficients of a frame's noise, by least squares.
+mod equations; // the normal equations in f64, from exact sums
+mod coefficients; // solved and quantised
+mod planes; // the fit of a plane
+
+ghost use mathlib.Core.Path.{_≡_};
+ghost use Prim.Native.Nat.{_≤_};
+ghost use Rattle.fit.specs.Answer.{allZero, firstOf, unfit, fitAnswer};
+use frame::Shape;
+use planes::chroma_fit;
+use planes::luma_fit;
+
+// A refusal's number; whether there is a fit; the coefficients, each times 64, in the order of neighbours: `count` of luma, and of chroma one more, the luma tap. The unused ones are 0.
+#[repr(C)]
+pub struct Fit {
+    pub refusal: u32,
+    pub found: bool,
+    pub count: usize,
+    pub luma: [i32; 24],
+    pub cb: [i32; 25],
+    pub cr: [i32; 25],
+}
+
+// The first 24.
+fn first(x: [i32; 25]) -> [i32; 24]
+    ensures { λ r. ⌜ r ≡ firstOf x ⌝ }
+{
+    let mut out = [0i32; 24];
+    for i in 0..24usize {
+        out[i] = x[i];
+    }
+    out
+}
+
+// Are the first n all 0?
+fn all_zero(x: [i32; 24], n: usize) -> bool
+    requires { ⌜ n ≤ 24 ⌝ }
+    ensures { λ r. ⌜ r ≡ allZero x n ⌝ }
+{
+    for i in 0..n {
+        if x[i] != 0 {
+            return false;
+        }
+    }
+    true
+}
+
+// Refused, or with 0 no fit.
+fn unfitted(refusal: u32) -> Fit
+    ensures { λ r. ⌜ r ≡ unfit refusal ⌝ }
+{
+    Fit {
+        refusal,
+        found: false,
+        count: 0usize,
+        luma: [0i32; 24],
+        cb: [0i32; 25],
+        cr: [0i32; 25],
+    }
+}
+
+// The fit of a frame's noise at one lag.
+pub fn fit_ar_lag(
+    s: Shape,
+    y: &[u16],
+    cb: &[u16],
+    cr: &[u16],
+    dy: &[u16],
+    dcb: &[u16],
+    dcr: &[u16],
+    lag: usize,
+) -> Fit
+    ensures { λ r. ⌜ r ≡ fitAnswer s (now (y .entry)) (now (cb .entry)) (now (cr .entry)) (now (dy .entry)) (now (dcb .entry)) (now (dcr .entry)) lag ⌝ }
+{
+    let refused = frame::fit_call(s, y, cb, cr, dy, dcb, dcr, lag);
+    if refused != 0 {
+        return unfitted(refused);
+    }
+    let count = 2usize * lag * (lag + 1usize);
+    let luma = first(luma_fit(y, dy, s.width, s.height, lag));
+    if all_zero(luma, count) {
+        return unfitted(0);
+    }
+    let cw = s.chroma_width();
+    let ch = s.chroma_height();
+    let chroma = chroma_fit(
+        y,
+        dy,
+        s.width,
+        s.height,
+        s.format,
+        cb,
+        dcb,
+        cr,
+        dcr,
+        cw,
+        ch,
+        lag,
+    );
+    let blue = chroma.cb;
+    let red = chroma.cr;
+    Fit {
+        refusal: 0,
+        found: true,
+        count,
+        luma,
+        cb: blue,
+        cr: red,
+    }
+}

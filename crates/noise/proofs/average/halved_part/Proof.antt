@@ -1,0 +1,112 @@
+-- `noise::average::halved_part` meets its contract: the columns before `from`, and those passed, are filled with four times their average. Assumes nothing.
+use mathlib.Core.Path.{_≡_, refl}
+use Prim.Native.Nat.{_+_, _-_, _*_, _≤_}
+use native.Mathlib.Omega.{arith}
+use borrow.Author.Needs.{needs}
+use lib.IntN.{_+ℤ_}
+use mir.Syntax.{w16}
+use mir.Val.{ofZ, toZ}
+use Rattle.laws.proofs.Table.{tabulate-at}
+use Rattle.laws.proofs.Is.{Is, fits, again}
+use Rattle.noise.specs.Lines.{at}
+use Rattle.noise.specs.Quarters.{quartered}
+use Rattle.noise.proofs.Fill.{Filled, fill-turn}
+use Rattle.noise.proofs.Quarters.{even-is}
+use Rattle.noise.proofs.average.halved_part.Statement.{statement}
+use Rattle.noise.proofs.average.halved_part.Tie as tie
+
+abbrev Inv-loop : tie.InvT-loop
+Inv-loop sums from n line₀ i₀ line i = (i ≤ n) × Filled (quartered 1 sums) line₀ line (from + i)
+
+abbrev μ-loop : tie.MeasureT-loop
+μ-loop sums from n line₀ i₀ line i = n - i
+
+loop-holds : tie.Need-loop-holds Inv-loop μ-loop
+loop-holds c =
+    let S = c in
+    (omega arith, record { count = omega arith; same = refl; front = tabulate-at _ _ (S .args .from) (S .args .from + 0) (omega arith) (S .pre .3) })
+
+add-k : tie.Need-add-k Inv-loop μ-loop
+add-k c = search needs
+
+mul-a : tie.Need-mul-a Inv-loop μ-loop
+mul-a c = search needs
+
+mul-a-2 : tie.Need-mul-a-2 Inv-loop μ-loop
+mul-a-2 c = search needs
+
+shared-slice-copy-out-a : tie.Need-shared-slice-copy-out-a Inv-loop μ-loop
+shared-slice-copy-out-a c = omega arith
+
+mul-b : tie.Need-mul-b Inv-loop μ-loop
+mul-b c = search needs
+
+add-b : tie.Need-add-b Inv-loop μ-loop
+add-b c = search needs
+
+mul-b-2 : tie.Need-mul-b-2 Inv-loop μ-loop
+mul-b-2 c = search needs
+
+shared-slice-copy-out-b : tie.Need-shared-slice-copy-out-b Inv-loop μ-loop
+shared-slice-copy-out-b c = omega arith
+
+-- what a turn stores
+stored : (c : tie.After-b Inv-loop μ-loop) → let A = c .before .before .before .before .args in
+    let k = A .from + c .before .before .before .loop .i in
+    Is w16 (toZ w16 (ofZ w16 (at (A .sums .now) (k * 2))) +ℤ toZ w16 (ofZ w16 (at (A .sums .now) (k * 2 + 1)))) (quartered 1 (A .sums .now) k)
+stored c = even-is _ (c .before .before .before .before .pre .0) _ (omega arith)
+
+add-line : tie.Need-add-line Inv-loop μ-loop
+add-line c = fits (stored c)
+
+mul-t10 : tie.Need-mul-t10 Inv-loop μ-loop
+mul-t10 c = search needs
+
+slice-set-from-line : tie.Need-slice-set-from-line Inv-loop μ-loop
+slice-set-from-line c = search needs
+
+add-i : tie.Need-add-i Inv-loop μ-loop
+add-i c = search needs
+
+loop-less : tie.Need-loop-less Inv-loop μ-loop
+loop-less c = omega arith
+
+loop-again : tie.Need-loop-again Inv-loop μ-loop
+loop-again c =
+    let A = c .before .before .before .before .args in
+    let H = c .before .before .before .loop in
+    let e : A .from + H .i + 1 ≡ A .from + (H .i + 1) = omega arith in
+    (omega arith, rw e at (fill-turn _ _ _ (H .inv .1) (omega arith) (again (stored c) .eq)))
+
+same-length : tie.Need-same-length Inv-loop μ-loop
+same-length c = search needs
+
+returns : tie.Need-returns Inv-loop μ-loop
+returns c =
+    let A = c .before .before .args in
+    let H = c .before .loop in
+    tabulate-at _ _ (A .from + H .i) (A .from + A .n) (omega arith) (H .inv .1 .front)
+
+pub halved-part-spec : {M : Type 1} → statement M
+halved-part-spec =
+    tie.close
+    (tie.spec
+    Inv-loop
+    μ-loop
+    loop-holds
+    add-k
+    mul-a
+    mul-a-2
+    shared-slice-copy-out-a
+    mul-b
+    add-b
+    mul-b-2
+    shared-slice-copy-out-b
+    add-line
+    mul-t10
+    slice-set-from-line
+    add-i
+    loop-less
+    loop-again
+    same-length
+    returns)
