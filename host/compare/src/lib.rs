@@ -3,6 +3,7 @@
 
 pub mod calls;
 pub mod case;
+pub mod clock;
 pub mod draw;
 pub mod input;
 pub mod noise;

@@ -2,6 +2,7 @@
 //! standard output.
 
 use compare::calls::{CALLS, Call};
+use compare::clock;
 use compare::input::{Input, Planes};
 use compare::noise::Size;
 use compare::scan;
@@ -83,13 +84,13 @@ fn rows() -> Vec<Row> {
 /// Short work is repeated until it takes about this long.
 const TURN: Duration = Duration::from_millis(1);
 
-/// The time of one of so many turns of `work`.
+/// The processor time of one of so many turns of `work`.
 fn time(turns: u32, work: &mut dyn FnMut()) -> Duration {
-    let start = Instant::now();
+    let start = clock::thread_time();
     for _ in 0..turns {
         work();
     }
-    start.elapsed() / turns
+    (clock::thread_time() - start) / turns
 }
 
 /// The best times of each of these works, taken in turn.
@@ -247,7 +248,8 @@ fn main() {
     println!(
         "Ours is libgrain.a through the safe Rust crate, all questions asked; the Rust is that of oracle/, built with the same \
          profile. One thread, 4:2:0, the same planes: a gradient under noise of about four 8-bit steps, and its denoised \
-         copies. The two are timed in turn, and the best time of each stands here. The figures of a frame pair are both \
+         copies. The two are timed in turn, and the best of each stands here: the \
+         processor time of the thread, page faults included. The figures of a frame pair are both \
          frames denoised, the profile, the three gates, the chroma correlation and the fits of lags 1, 2 and 3. The Rust's \
          solver is handed a new `Vec` of `Vec`s each time, whose making is in its time; a register row is five steps."
     );
