@@ -7,6 +7,7 @@ ghost use Rattle.correlation.specs.Exact.{tapOf};
 ghost use Rattle.correlation.specs.Answer.{corrAnswer};
 
 // The luma tap of each chroma plane, at lag 0.
+#[repr(C)]
 pub struct ChromaCorr {
     pub refusal: u32,
     pub cb: i32,

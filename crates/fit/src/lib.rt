@@ -11,6 +11,7 @@ use planes::chroma_fit;
 use planes::luma_fit;
 
 // A refusal's number; whether there is a fit; the coefficients, each times 64, in the order of neighbours: `count` of luma, and of chroma one more, the luma tap. The unused ones are 0.
+#[repr(C)]
 pub struct Fit {
     pub refusal: u32,
     pub found: bool,

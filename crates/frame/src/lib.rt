@@ -23,6 +23,7 @@ ghost use Rattle.frame.specs.Size.{chromaWidth, chromaHeight};
 ghost use Rattle.frame.specs.Questions.{lumaSamples, chromaSamples, sideLimit};
 
 // A frame's size in luma samples, its depth in bits, and its format: 0 monochrome, 1 4:2:0, 2 4:2:2, 3 4:4:4.
+#[repr(C)]
 pub struct Shape {
     pub width: usize,
     pub height: usize,

@@ -14,6 +14,7 @@ pub enum Rho {
 }
 
 // What a gate answers.
+#[repr(C)]
 pub struct Gate {
     pub refusal: u32,
     pub yes: bool,

@@ -5,6 +5,7 @@ ghost use lib.IntN.{pos, _-ℤ_};
 ghost use Rattle.positions.specs.Positions.{positionsOf};
 
 // A refusal's number; how many neighbours there are, and the row and the column of each, counted from the sample. Unused places are zero.
+#[repr(C)]
 pub struct Positions {
     pub refusal: u32,
     pub count: usize,

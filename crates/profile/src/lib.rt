@@ -8,11 +8,13 @@ mod estimate; // the profiles of a frame
 pub use estimate::noise_estimate;
 pub use planes::plane_sigma16;
 
+#[repr(C)]
 pub struct Sigma {
     pub refusal: u32,
     pub sigma16: u64,
 }
 
+#[repr(C)]
 pub struct LumaProfile {
     pub sigma16: u64,
     pub bin_sigma16: [u64; 8],
@@ -20,6 +22,7 @@ pub struct LumaProfile {
     pub bin_squares: [u64; 8],
 }
 
+#[repr(C)]
 pub struct ChromaProfile {
     pub sigma16: u64,
     pub bin_sigma16: [u64; 4],
@@ -27,6 +30,7 @@ pub struct ChromaProfile {
     pub bin_squares: [u64; 4],
 }
 
+#[repr(C)]
 pub struct NoiseEstimate {
     pub refusal: u32,
     pub luma: LumaProfile,

@@ -2,6 +2,7 @@
 ghost use mathlib.Core.Path.{_≡_};
 ghost use Rattle.random.specs.Register.{step};
 
+#[repr(C)]
 pub struct RandomRegister {
     pub state: u16,
 }

@@ -7,12 +7,14 @@ ghost use Rattle.solve.specs.Elimination.{System, pivotOf, swapped, clea
 ghost use Rattle.solve.specs.Answer.{refusalOf, unsolvedOf, solvedOf};
 
 // A count with 25 values; the unused ones are plus zero.
+#[repr(C)]
 pub struct Solution {
     pub order: usize,
     pub values: [f64; 25],
 }
 
 // A refusal's number; whether there is a solution, and the solution.
+#[repr(C)]
 pub struct Solved {
     pub refusal: u32,
     pub found: bool,

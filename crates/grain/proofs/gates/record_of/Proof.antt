@@ -1,0 +1,21 @@
+-- `grain::gates::record_of`: each arm is given its variant, at which `ofRho` computes. Assumes nothing.
+use lib.Ieee.{ofBits}
+use borrow.Author.Needs.{needs}
+use Rattle.grain.proofs.gates.record_of.Statement.{statement}
+use Rattle.grain.proofs.gates.record_of.Tie as tie
+
+enum-known-rho : tie.Need-enum-known-rho
+enum-known-rho c = search needs
+
+enum-known-rho-2 : tie.Need-enum-known-rho-2
+enum-known-rho-2 c = search needs
+
+returns : tie.Need-returns
+unfolding ofBits
+returns c = rw (c .before .rho .given .1)
+
+returns-2 : tie.Need-returns-2
+returns-2 c = rw (c .before .rho2 .given .1)
+
+pub record-of-spec : {M : Type 1} → statement M
+record-of-spec = tie.close (tie.spec enum-known-rho enum-known-rho-2 returns returns-2)

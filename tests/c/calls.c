@@ -1,0 +1,589 @@
+/* Makes every call that include/grain.h declares, on the worked cases of the scope and on refusals. A comparison that
+ * fails is written with its line; the last line is 'calls.c: N compared, M differ', and the status is 0 if M is. */
+#include "grain.h"
+
+#include <math.h>
+#include <stdio.h>
+#include <string.h>
+
+/* ---- Layout: as the library lays its records out ---- */
+
+#define PLACED(type, field, at) _Static_assert(offsetof(type, field) == (at), #type "." #field)
+#define SIZED(type, size) _Static_assert(sizeof(type) == (size), #type)
+
+PLACED(grain_shape, width, 0);
+PLACED(grain_shape, height, 8);
+PLACED(grain_shape, depth, 16);
+PLACED(grain_shape, format, 17);
+SIZED(grain_shape, 24);
+PLACED(grain_sigma, sigma16, 8);
+SIZED(grain_sigma, 16);
+PLACED(grain_luma_profile, bin_sigma16, 8);
+PLACED(grain_luma_profile, bin_count, 72);
+PLACED(grain_luma_profile, bin_squares, 136);
+SIZED(grain_luma_profile, 200);
+PLACED(grain_chroma_profile, bin_sigma16, 8);
+PLACED(grain_chroma_profile, bin_count, 40);
+PLACED(grain_chroma_profile, bin_squares, 72);
+SIZED(grain_chroma_profile, 104);
+PLACED(grain_estimate, luma, 8);
+PLACED(grain_estimate, cb, 208);
+PLACED(grain_estimate, cr, 312);
+SIZED(grain_estimate, 416);
+PLACED(grain_rho, value, 8);
+SIZED(grain_rho, 16);
+PLACED(grain_gate, yes, 4);
+SIZED(grain_gate, 8);
+PLACED(grain_chroma_corr, cb, 4);
+PLACED(grain_chroma_corr, cr, 8);
+SIZED(grain_chroma_corr, 12);
+PLACED(grain_solution, values, 8);
+SIZED(grain_solution, 208);
+PLACED(grain_solved, found, 4);
+PLACED(grain_solved, solution, 8);
+SIZED(grain_solved, 216);
+PLACED(grain_positions, count, 8);
+PLACED(grain_positions, rows, 16);
+PLACED(grain_positions, columns, 112);
+SIZED(grain_positions, 208);
+PLACED(grain_fit, found, 4);
+PLACED(grain_fit, count, 8);
+PLACED(grain_fit, luma, 16);
+PLACED(grain_fit, cb, 112);
+PLACED(grain_fit, cr, 212);
+SIZED(grain_fit, 312);
+SIZED(grain_random, 2);
+PLACED(grain_draw, value, 4);
+SIZED(grain_draw, 8);
+PLACED(grain_stepped, value, 4);
+PLACED(grain_stepped, after, 8);
+SIZED(grain_stepped, 12);
+
+/* ---- Comparisons ---- */
+
+static int compared, differ;
+
+static void compare(int line, const char *what, const void *got, const void *want, size_t size)
+{
+    compared++;
+    if (memcmp(got, want, size) != 0) {
+        differ++;
+        printf("calls.c:%d: not so: %s\n", line, what);
+    }
+}
+
+static const char zeros[1024];
+
+/* whole numbers; doubles by their bits; the first elements of an array; all bytes of a field or of a plane */
+#define SAME(got, want) \
+    do { \
+        long long g_ = (got), w_ = (want); \
+        compare(__LINE__, #got " = " #want, &g_, &w_, sizeof g_); \
+    } while (0)
+#define SAME_F64(got, want) \
+    do { \
+        double g_ = (got), w_ = (want); \
+        compare(__LINE__, #got " = " #want, &g_, &w_, sizeof g_); \
+    } while (0)
+#define SAME_ALL(got, ...) \
+    do { \
+        __typeof__((got)[0]) w_[] = {__VA_ARGS__}; \
+        compare(__LINE__, #got " = " #__VA_ARGS__, got, w_, sizeof w_); \
+    } while (0)
+#define ZERO(field) compare(__LINE__, #field " = 0", &(field), zeros, sizeof(field))
+
+/* ---- Planes ---- */
+
+#define LENT(plane) (plane), sizeof(plane) / sizeof((plane)[0])
+#define NONE nothing, 0
+
+static uint16_t nothing[1];
+static uint16_t flat[4097];
+
+/* A source and a denoised copy with this noise. */
+static void samples(const int *noise, size_t n, uint16_t *src, uint16_t *den)
+{
+    for (size_t i = 0; i < n; i++) {
+        src[i] = (uint16_t)(512 + noise[i]);
+        den[i] = 512;
+    }
+}
+
+static void fill(uint16_t *plane, size_t n, uint16_t x)
+{
+    for (size_t i = 0; i < n; i++)
+        plane[i] = x;
+}
+
+static grain_shape shape(size_t width, size_t height, uint8_t depth, uint8_t format)
+{
+    return (grain_shape){width, height, depth, format};
+}
+
+/* ---- Denoise ---- */
+
+static void denoise_plane(void)
+{
+    uint16_t one[1] = {7}, two[2] = {0, 16}, nine[9] = {0, 0, 0, 0, 16}, top[4] = {65535, 65535, 65535, 65535};
+    uint16_t d1[1] = {1}, d2[2] = {1, 1}, d9[9], d4[4] = {1, 1, 1, 1};
+    SAME(grain_denoise_plane(LENT(one), LENT(d1), 1, 1), 0);
+    SAME_ALL(d1, 7);
+    SAME(grain_denoise_plane(LENT(two), LENT(d2), 2, 1), 0);
+    SAME_ALL(d2, 4, 12);
+    SAME(grain_denoise_plane(LENT(nine), LENT(d9), 3, 3), 0);
+    SAME_ALL(d9, 1, 2, 1, 2, 4, 2, 1, 2, 1);
+    SAME(grain_denoise_plane(LENT(top), LENT(d4), 2, 2), 0);
+    SAME_ALL(d4, 65535, 65535, 65535, 65535);
+
+    SAME(grain_denoise_plane(NONE, NONE, 0, 5), 0);
+    SAME(grain_denoise_plane(NONE, LENT(d1), 0, 5), 5);
+    SAME(grain_denoise_plane(LENT(two), LENT(d1), 2, 1), 5);
+    SAME(grain_denoise_plane(LENT(one), LENT(d2), 2, 1), 5);
+    SAME(grain_denoise_plane(NONE, LENT(d1), 4097, 0), 1);
+    SAME(grain_denoise_plane(NONE, LENT(d1), 0, 4097), 1);
+    SAME_ALL(d1, 7);
+    SAME_ALL(d2, 4, 12);
+
+    static uint16_t row[4097];
+    fill(row, 4097, 3);
+    SAME(grain_denoise_plane(flat, 4097, row, 4097, 4097, 1), 1);
+    SAME(row[0] + row[4096], 6);
+    SAME(grain_denoise_plane(flat, 4096, row, 4096, 4096, 1), 0);
+    SAME(row[0] + row[4095] + row[4096], 3);
+}
+
+static void denoise_frame(void)
+{
+    uint16_t y[9] = {0, 0, 0, 0, 16}, cb[4] = {0, 16, 0, 16}, cr[4] = {0, 0, 16, 16};
+    uint16_t dy[9], dcb[4], dcr[4];
+    fill(dy, 9, 500);
+    fill(dcb, 4, 501);
+    fill(dcr, 4, 502);
+#define FRAME LENT(y), LENT(cb), LENT(cr), LENT(dy), LENT(dcb), LENT(dcr)
+    SAME(grain_denoise_frame(shape(4097, 3, 8, 1), FRAME), 1);
+    SAME(grain_denoise_frame(shape(0, 3, 8, 1), FRAME), 2);
+    SAME(grain_denoise_frame(shape(3, 3, 9, 1), FRAME), 3);
+    SAME(grain_denoise_frame(shape(3, 3, 8, 4), FRAME), 4);
+    SAME(grain_denoise_frame(shape(3, 3, 8, 2), FRAME), 5);
+    SAME(grain_denoise_frame(shape(3, 3, 8, 1), LENT(y), LENT(cb), LENT(cr), LENT(dy), LENT(dcb), dcr, 3), 5);
+    cr[3] = 256;
+    SAME(grain_denoise_frame(shape(3, 3, 8, 1), FRAME), 6);
+    SAME_ALL(dy, 500, 500, 500, 500, 500, 500, 500, 500, 500);
+    SAME_ALL(dcb, 501, 501, 501, 501);
+    SAME_ALL(dcr, 502, 502, 502, 502);
+    cr[3] = 16;
+    SAME(grain_denoise_frame(shape(3, 3, 8, 1), FRAME), 0);
+    SAME_ALL(dy, 1, 2, 1, 2, 4, 2, 1, 2, 1);
+    SAME_ALL(dcb, 4, 12, 4, 12);
+    SAME_ALL(dcr, 4, 4, 12, 12);
+#undef FRAME
+    fill(dy, 9, 500);
+    SAME(grain_denoise_frame(shape(3, 3, 8, 0), LENT(y), NONE, NONE, LENT(dy), NONE, NONE), 0);
+    SAME_ALL(dy, 1, 2, 1, 2, 4, 2, 1, 2, 1);
+}
+
+/* ---- Sigma16 and the profile ---- */
+
+static uint64_t sigma16(const uint16_t *src, const uint16_t *den, size_t n, uint8_t depth)
+{
+    grain_sigma a = grain_plane_sigma16(src, n, den, n, n, 1, depth);
+    SAME(a.refusal, 0);
+    return a.sigma16;
+}
+
+static void plane_sigma16(void)
+{
+    uint16_t four[4] = {1}, fives[3] = {5, 5, 5}, sixes[3] = {6, 6, 6};
+    static uint16_t one[1025];
+    one[0] = 1;
+    SAME(sigma16(four, flat, 4, 8), 8);
+    SAME(sigma16(one, flat, 1024, 8), 1);
+    SAME(sigma16(one, flat, 1025, 8), 0);
+    SAME(sigma16(fives, sixes, 3, 10), 16);
+    SAME(sigma16(sixes, fives, 3, 10), 0);
+    SAME(sigma16(nothing, nothing, 0, 12), 0);
+
+    grain_sigma a = grain_plane_sigma16(flat, 4097, flat, 4097, 4097, 1, 8);
+    SAME(a.refusal, 1);
+    ZERO(a.sigma16);
+    SAME(grain_plane_sigma16(LENT(four), flat, 4, 4, 1, 9).refusal, 3);
+    SAME(grain_plane_sigma16(LENT(four), flat, 3, 4, 1, 8).refusal, 5);
+    four[3] = 255;
+    SAME(grain_plane_sigma16(LENT(four), flat, 4, 4, 1, 8).refusal, 0);
+    four[3] = 256;
+    a = grain_plane_sigma16(LENT(four), flat, 4, 4, 1, 8);
+    SAME(a.refusal, 6);
+    ZERO(a.sigma16);
+    a = grain_plane_sigma16(flat, 4, LENT(four), 4, 1, 8);
+    SAME(a.refusal, 6);
+    ZERO(a.sigma16);
+}
+
+/* n luma samples of which `few` have the noise 1 and lie in bin 1, the rest in bin 0 without noise: bin 1's sigma16. */
+static uint64_t bin1(size_t width, size_t height, size_t few)
+{
+    static uint16_t y[6500], dy[6500];
+    size_t n = width * height;
+    fill(y, n, 9);
+    fill(dy, n, 9);
+    fill(y, few, 33);
+    fill(dy, few, 32);
+    grain_estimate a = grain_noise_estimate(shape(width, height, 8, 0), y, n, NONE, NONE, dy, n, NONE, NONE);
+    SAME(a.refusal, 0);
+    SAME(a.luma.sigma16, 2);
+    SAME(a.luma.bin_count[0], n - few);
+    SAME(a.luma.bin_count[1], few);
+    SAME(a.luma.bin_squares[1], few);
+    ZERO(a.cb);
+    ZERO(a.cr);
+    return a.luma.bin_sigma16[1];
+}
+
+static void noise_estimate(void)
+{
+    uint16_t y[4] = {31, 32, 31, 255}, cb[4] = {63, 64, 63, 255}, cr[4] = {0, 0, 64, 64};
+    uint16_t dy[4] = {30, 32, 31, 255}, dcb[4] = {63, 62, 63, 255}, dcr[4] = {0, 0, 64, 61};
+#define FRAME LENT(y), LENT(cb), LENT(cr), LENT(dy), LENT(dcb), LENT(dcr)
+    grain_estimate a = grain_noise_estimate(shape(2, 2, 8, 3), FRAME);
+    SAME(a.refusal, 0);
+    SAME(a.luma.sigma16, 8);
+    SAME_ALL(a.luma.bin_sigma16, 8, 8, 8, 8, 8, 8, 8, 8);
+    SAME_ALL(a.luma.bin_count, 2, 1, 0, 0, 0, 0, 0, 1);
+    SAME_ALL(a.luma.bin_squares, 1, 0, 0, 0, 0, 0, 0, 0);
+    SAME(a.cb.sigma16, 16);
+    SAME_ALL(a.cb.bin_sigma16, 16, 16, 16, 16);
+    SAME_ALL(a.cb.bin_count, 2, 1, 0, 1);
+    SAME_ALL(a.cb.bin_squares, 0, 4, 0, 0);
+    SAME(a.cr.sigma16, 24);
+    SAME_ALL(a.cr.bin_sigma16, 24, 24, 24, 24);
+    SAME_ALL(a.cr.bin_count, 2, 2, 0, 0);
+    SAME_ALL(a.cr.bin_squares, 0, 9, 0, 0);
+
+    uint16_t ten[1] = {1023};
+    a = grain_noise_estimate(shape(1, 1, 10, 0), LENT(ten), NONE, NONE, LENT(ten), NONE, NONE);
+    SAME(a.refusal, 0);
+    SAME(a.luma.bin_count[7], 1);
+
+    SAME(bin1(80, 80, 64), 16);
+    SAME(bin1(80, 80, 63), 2);
+    SAME(bin1(100, 65, 65), 16);
+    SAME(bin1(100, 65, 64), 2);
+
+    SAME(grain_noise_estimate(shape(2, 4097, 8, 3), FRAME).refusal, 1);
+    SAME(grain_noise_estimate(shape(2, 0, 8, 3), FRAME).refusal, 2);
+    SAME(grain_noise_estimate(shape(2, 2, 0, 3), FRAME).refusal, 3);
+    SAME(grain_noise_estimate(shape(2, 2, 8, 4), FRAME).refusal, 4);
+    SAME(grain_noise_estimate(shape(2, 2, 8, 1), FRAME).refusal, 5);
+    dcr[0] = 256;
+    a = grain_noise_estimate(shape(2, 2, 8, 3), FRAME);
+    SAME(a.refusal, 6);
+    ZERO(a.luma);
+    ZERO(a.cb);
+    ZERO(a.cr);
+#undef FRAME
+}
+
+/* ---- Correlations and gates ---- */
+
+static double rho(const int *noise, size_t width, size_t height, size_t lag)
+{
+    uint16_t src[16], den[16];
+    size_t n = width * height;
+    samples(noise, n, src, den);
+    grain_rho a = grain_lag_h_rho(src, n, den, n, width, height, lag, 10);
+    SAME(a.refusal, 0);
+    return a.value;
+}
+
+static void lag_h_rho(void)
+{
+    SAME_F64(rho((int[]){1, 1, 1, 1}, 4, 1, 1), 0.75);
+    SAME_F64(rho((int[]){1, 1, 1, -1}, 4, 1, 1), 0.25);
+    SAME_F64(rho((int[]){1, -1, 1, -1}, 4, 1, 1), -0.75);
+    SAME_F64(rho((int[]){1, -1, 1, -1}, 2, 2, 1), -0.5);
+    SAME_F64(rho((int[]){1, 1, 1, 1}, 4, 1, 0), 0.0);
+    SAME_F64(rho((int[]){1, 1, 1, 1}, 4, 1, 4), 0.0);
+    SAME_F64(rho((int[]){1, 1, 1, 1}, 4, 1, SIZE_MAX), 0.0);
+    SAME_F64(rho((int[]){0, 0, 0, 0}, 4, 1, 1), 0.0);
+
+    uint16_t high[1] = {1024};
+    grain_rho a = grain_lag_h_rho(LENT(high), LENT(high), 1, 1, 1, 10);
+    SAME(a.refusal, 6);
+    SAME_F64(a.value, 0.0);
+    SAME(grain_lag_h_rho(LENT(high), LENT(high), 4097, 1, 1, 10).refusal, 1);
+    SAME(grain_lag_h_rho(LENT(high), LENT(high), 1, 1, 1, 11).refusal, 3);
+    SAME(grain_lag_h_rho(LENT(high), NONE, 1, 1, 1, 10).refusal, 5);
+    SAME(grain_lag_h_rho(LENT(high), LENT(high), 1, 1, 1, 12).refusal, 0);
+}
+
+/* The gates of two frames of one row; chroma is handed the sigma16. At 8 bits the noise shows unshifted. */
+static bool luma(const int *first, const int *second, size_t n)
+{
+    uint16_t y0[10], d0[10], y1[10], d1[10];
+    for (size_t i = 0; i < n; i++) {
+        y0[i] = (uint16_t)(100 + first[i]);
+        y1[i] = (uint16_t)(100 + second[i]);
+        d0[i] = d1[i] = 100;
+    }
+    grain_gate a = grain_film_grain_probe(shape(n, 1, 8, 0), y0, n, d0, n, y1, n, d1, n);
+    SAME(a.refusal, 0);
+    return a.yes;
+}
+
+static bool chroma(const int *first, const int *second, size_t n, uint64_t sigma)
+{
+    uint16_t c0[10], d0[10], c1[10], d1[10];
+    samples(first, n, c0, d0);
+    samples(second, n, c1, d1);
+    grain_gate a = grain_chroma_noise_gate(shape(2 * n, 1, 10, 1), c0, n, d0, n, c1, n, d1, n, sigma);
+    SAME(a.refusal, 0);
+    return a.yes;
+}
+
+static void gates(void)
+{
+    int ones[4] = {1, 1, 1, 1}, a[4] = {1, 1, 1, -1}, b[4] = {1, -1, 1, 1}, zero[4] = {0};
+    int ten[10] = {1, 1, -1, -1, 1, 1, -1, -1, 1, 1};
+    int three[10] = {-1, -1, 1, -1, 1, 1, -1, -1, 1, 1};
+    int four[10] = {-1, -1, 1, 1, 1, 1, -1, -1, 1, 1};
+    SAME(luma(ones, ones, 4), false);
+    SAME(luma(a, b, 4), true);
+    SAME(luma(a, zero, 4), false);
+    SAME(luma(zero, a, 4), false);
+    SAME(luma(ten, three, 10), false);
+    SAME(luma(ten, four, 10), true);
+    SAME(chroma(a, b, 4, 8), true);
+    SAME(chroma(a, b, 4, 7), false);
+    SAME(chroma(ones, b, 4, 8), false);
+    SAME(chroma(ten, three, 10, UINT64_MAX), false);
+    SAME(chroma(ten, four, 10, UINT64_MAX), true);
+
+    uint16_t low[4] = {0}, high[4] = {256};
+#define FOUR LENT(low), LENT(low), LENT(low), LENT(high)
+    grain_gate g = grain_film_grain_probe(shape(4, 1, 8, 0), FOUR);
+    SAME(g.refusal, 6);
+    ZERO(g.yes);
+    SAME(grain_film_grain_probe(shape(4097, 1, 8, 0), FOUR).refusal, 1);
+    SAME(grain_film_grain_probe(shape(4, 0, 8, 0), FOUR).refusal, 2);
+    SAME(grain_film_grain_probe(shape(4, 1, 7, 0), FOUR).refusal, 3);
+    SAME(grain_film_grain_probe(shape(4, 1, 8, 9), FOUR).refusal, 4);
+    SAME(grain_film_grain_probe(shape(3, 1, 8, 0), FOUR).refusal, 5);
+    g = grain_chroma_noise_gate(shape(4, 1, 8, 3), FOUR, 8);
+    SAME(g.refusal, 6);
+    ZERO(g.yes);
+    SAME(grain_chroma_noise_gate(shape(4, 4097, 8, 3), FOUR, 8).refusal, 1);
+    SAME(grain_chroma_noise_gate(shape(0, 1, 8, 3), FOUR, 8).refusal, 2);
+    SAME(grain_chroma_noise_gate(shape(4, 1, 16, 3), FOUR, 8).refusal, 3);
+    SAME(grain_chroma_noise_gate(shape(4, 1, 8, 4), FOUR, 8).refusal, 4);
+    SAME(grain_chroma_noise_gate(shape(4, 1, 8, 1), FOUR, 8).refusal, 5);
+#undef FOUR
+    g = grain_chroma_noise_gate(shape(4, 1, 8, 0), NONE, NONE, NONE, NONE, 8);
+    SAME(g.refusal, 0);
+    SAME(g.yes, false);
+}
+
+static void fit_chroma_corr(void)
+{
+    uint16_t y[3] = {0, 4, 8}, cb[2] = {1, 1}, cr[2] = {0, 0}, dy[3] = {0}, dcb[2] = {0}, dcr[2] = {2, 2};
+#define FRAME LENT(y), LENT(cb), LENT(cr), LENT(dy), LENT(dcb), LENT(dcr)
+    grain_chroma_corr a = grain_fit_chroma_corr(shape(3, 1, 8, 1), FRAME);
+    SAME(a.refusal, 0);
+    SAME(a.cb, 9);
+    SAME(a.cr, -19);
+    SAME(grain_fit_chroma_corr(shape(4097, 1, 8, 1), FRAME).refusal, 1);
+    SAME(grain_fit_chroma_corr(shape(3, 0, 8, 1), FRAME).refusal, 2);
+    SAME(grain_fit_chroma_corr(shape(3, 1, 255, 1), FRAME).refusal, 3);
+    SAME(grain_fit_chroma_corr(shape(3, 1, 8, 255), FRAME).refusal, 4);
+    SAME(grain_fit_chroma_corr(shape(3, 1, 8, 3), FRAME).refusal, 5);
+    dcb[1] = 256;
+    a = grain_fit_chroma_corr(shape(3, 1, 8, 1), FRAME);
+    SAME(a.refusal, 6);
+    ZERO(a.cb);
+    ZERO(a.cr);
+#undef FRAME
+    a = grain_fit_chroma_corr(shape(3, 1, 8, 0), LENT(y), NONE, NONE, LENT(dy), NONE, NONE);
+    SAME(a.refusal, 0);
+    SAME(a.cb, 0);
+    SAME(a.cr, 0);
+}
+
+/* ---- Fits ---- */
+
+static void quant_ar(void)
+{
+    SAME(grain_quant_ar(0.0078125), 1);
+    SAME(grain_quant_ar(-0.0078125), -1);
+    SAME(grain_quant_ar(1.9921875), 127);
+    SAME(grain_quant_ar(-2.0078125), -128);
+    SAME(grain_quant_ar(NAN), 0);
+    SAME(grain_quant_ar(INFINITY), 127);
+    SAME(grain_quant_ar(-INFINITY), -128);
+}
+
+static void solve_normal(void)
+{
+    static double a[25][25];
+    double b[25] = {3, 4, 5};
+    a[0][1] = a[1][0] = 1;
+    grain_solved x = grain_solve_normal(a, b, 2);
+    SAME(x.refusal, 0);
+    SAME(x.found, true);
+    SAME(x.solution.order, 2);
+    SAME_ALL(x.solution.values, 4, 3, 0, 0, 0, 0, 0, 0, 0, 0, 0, 0, 0, 0, 0, 0, 0, 0, 0, 0, 0, 0, 0, 0, 0);
+    SAME_F64(a[0][0], 0);
+    SAME_F64(a[0][1], 1);
+    SAME_F64(b[0], 3);
+
+    for (int i = 0; i < 25; i++) {
+        for (int j = 0; j < 25; j++)
+            a[i][j] = i == j ? 2 : 0;
+        b[i] = i;
+    }
+    x = grain_solve_normal(a, b, 25);
+    SAME(x.solution.order, 25);
+    SAME_F64(x.solution.values[24], 12);
+
+    size_t refused[2] = {0, 26};
+    for (int i = 0; i < 2; i++) {
+        x = grain_solve_normal(a, b, refused[i]);
+        SAME(x.refusal, 8);
+        ZERO(x.found);
+        ZERO(x.solution);
+    }
+    a[0][0] = b[0] = 1e-9;
+    x = grain_solve_normal(a, b, 1);
+    SAME(x.found, true);
+    SAME_F64(x.solution.values[0], 1);
+    a[0][0] = 0.999e-9;
+    x = grain_solve_normal(a, b, 1);
+    SAME(x.refusal, 0);
+    ZERO(x.found);
+    ZERO(x.solution);
+    a[0][0] = NAN;
+    x = grain_solve_normal(a, b, 1);
+    SAME(x.found, true);
+    SAME(isnan(x.solution.values[0]) != 0, true);
+}
+
+static void ar_positions(void)
+{
+    grain_positions p = grain_ar_positions(1);
+    SAME(p.refusal, 0);
+    SAME(p.count, 4);
+    SAME_ALL(p.rows, -1, -1, -1, 0, 0, 0, 0, 0, 0, 0, 0, 0, 0, 0, 0, 0, 0, 0, 0, 0, 0, 0, 0, 0);
+    SAME_ALL(p.columns, -1, 0, 1, -1, 0, 0, 0, 0, 0, 0, 0, 0, 0, 0, 0, 0, 0, 0, 0, 0, 0, 0, 0, 0);
+    p = grain_ar_positions(3);
+    SAME(p.count, 24);
+    SAME(p.rows[0], -3);
+    SAME(p.columns[6], 3);
+    SAME(p.rows[23], 0);
+    SAME(p.columns[23], -1);
+    SAME(grain_ar_positions(0).count, 0);
+    p = grain_ar_positions(4);
+    SAME(p.refusal, 7);
+    ZERO(p.count);
+    ZERO(p.rows);
+    ZERO(p.columns);
+}
+
+/* Noise that follows its neighbours exactly, so that least squares has one answer: luma is its neighbour at (-1,-1), Cb
+ * its neighbour at (-1,1) less luma, and Cr luma less its neighbour at (0,-1). Coefficients are 64ths. */
+static void fit_ar_lag(void)
+{
+    enum { W = 10, H = 8 };
+    static const int free_noise[W + H] = {3, -5, 2, 7, -1, 4, -6, 1, 5, -2, -7, 6, 0, 3, -4, 2, -3, 5};
+    int n[3][H * W];
+    for (int r = 0; r < H; r++)
+        for (int c = 0; c < W; c++) {
+            int i = r * W + c;
+            n[0][i] = free_noise[c - r + H];
+            n[1][i] = r == 0 || c == 0 || c == W - 1 ? free_noise[r + c] : n[1][i - W + 1] - n[0][i];
+            n[2][i] = c == 0 ? free_noise[2 * r] : n[0][i] - n[2][i - 1];
+        }
+    uint16_t y[H * W], cb[H * W], cr[H * W], dy[H * W], dcb[H * W], dcr[H * W];
+    samples(n[0], H * W, y, dy);
+    samples(n[1], H * W, cb, dcb);
+    samples(n[2], H * W, cr, dcr);
+#define FRAME LENT(y), LENT(cb), LENT(cr), LENT(dy), LENT(dcb), LENT(dcr)
+    grain_fit a = grain_fit_ar_lag(shape(W, H, 10, 3), FRAME, 1);
+    SAME(a.refusal, 0);
+    SAME(a.found, true);
+    SAME(a.count, 4);
+    SAME_ALL(a.luma, 64, 0, 0, 0, 0, 0, 0, 0, 0, 0, 0, 0, 0, 0, 0, 0, 0, 0, 0, 0, 0, 0, 0, 0);
+    SAME_ALL(a.cb, 0, 0, 64, 0, -64, 0, 0, 0, 0, 0, 0, 0, 0, 0, 0, 0, 0, 0, 0, 0, 0, 0, 0, 0, 0);
+    SAME_ALL(a.cr, 0, 0, 0, -64, 64, 0, 0, 0, 0, 0, 0, 0, 0, 0, 0, 0, 0, 0, 0, 0, 0, 0, 0, 0, 0);
+
+    a = grain_fit_ar_lag(shape(2, 2, 10, 0), y, 4, NONE, NONE, dy, 4, NONE, NONE, 1);
+    SAME(a.refusal, 0);
+    SAME(a.found, false);
+    SAME(grain_fit_ar_lag(shape(W, H, 10, 3), FRAME, 0).found, false);
+    SAME(grain_fit_ar_lag(shape(W, 4097, 10, 3), FRAME, 1).refusal, 1);
+    SAME(grain_fit_ar_lag(shape(W, 0, 10, 3), FRAME, 1).refusal, 2);
+    SAME(grain_fit_ar_lag(shape(W, H, 14, 3), FRAME, 1).refusal, 3);
+    SAME(grain_fit_ar_lag(shape(W, H, 10, 4), FRAME, 1).refusal, 4);
+    SAME(grain_fit_ar_lag(shape(W, H, 10, 1), FRAME, 1).refusal, 5);
+    SAME(grain_fit_ar_lag(shape(W, H, 8, 3), FRAME, 4).refusal, 6);
+    a = grain_fit_ar_lag(shape(W, H, 10, 3), FRAME, 4);
+    SAME(a.refusal, 7);
+    ZERO(a.found);
+    ZERO(a.count);
+    ZERO(a.luma);
+    ZERO(a.cb);
+    ZERO(a.cr);
+#undef FRAME
+}
+
+/* ---- Seed and random register ---- */
+
+static void draws(void)
+{
+    SAME(grain_seed_for(0), 20973);
+    SAME(grain_seed_for(1), 61476);
+    SAME(grain_seed_for(2), 36443);
+    SAME(grain_seed_for(65536), 20973);
+
+    SAME(grain_random_new(65535).state, 65535);
+    grain_stepped s = grain_random_step(grain_random_new(1), 11);
+    SAME(s.refusal, 0);
+    SAME(s.value, 1024);
+    SAME(s.after.state, 32768);
+    SAME(grain_random_step(grain_random_new(1), 16).value, 32768);
+    SAME(grain_random_step(grain_random_new(1), 0).value, 0);
+    SAME(grain_random_step(grain_random_new(1), 0).after.state, 32768);
+    s = grain_random_step(grain_random_new(1), 17);
+    SAME(s.refusal, 9);
+    SAME(s.value, 0);
+    SAME(s.after.state, 1);
+
+    uint16_t state = 1;
+    grain_draw d = grain_random_next(&state, 17);
+    SAME(d.refusal, 9);
+    SAME(d.value, 0);
+    SAME(state, 1);
+    d = grain_random_next(&state, 11);
+    SAME(d.refusal, 0);
+    SAME(d.value, 1024);
+    SAME(state, 32768);
+    d = grain_random_next(&state, 0);
+    SAME(d.refusal, 0);
+    SAME(d.value, 0);
+    SAME(state, 16384);
+}
+
+int main(void)
+{
+    denoise_plane();
+    denoise_frame();
+    plane_sigma16();
+    noise_estimate();
+    lag_h_rho();
+    gates();
+    fit_chroma_corr();
+    quant_ar();
+    solve_normal();
+    ar_positions();
+    fit_ar_lag();
+    draws();
+    printf("calls.c: %d compared, %d differ\n", compared, differ);
+    return differ != 0;
+}
