@@ -29,14 +29,24 @@ INNER = '''pub struct Counter {
 }
 
 impl Counter {
-    pub fn step(self) -> Counter {
+    pub fn step(self) -> Counter
+        ensures { λ r. ⌜ r ≡ self ⌝ }
+    {
         self
     }
 }
 
-pub fn shown() {}
+pub fn shown()
+    ensures { λ r. ⌜ r ≡ tt ⌝ }
+{
+}
 
-pub fn kept_inside() {}
+pub fn kept_inside(x: u32) -> u32
+    requires { ⌜ x < 10 ⌝ }
+    ensures { λ r. ⌜ r ≡ x ⌝ }
+{
+    x
+}
 '''
 SPEC = '''-- One more.
 unfoldable pub bumped : ℕ → ℕ
@@ -50,14 +60,44 @@ module _ (n : ℕ) where
 '''
 
 
-PUBLIC = '`one/src/lib.rt:bump` `one/src/inner.rt:step` `one/src/inner.rt:shown`'
+GRAIN = '''#[no_mangle]
+pub extern "C" fn grain_bump(x: u32) -> u32
+    ensures { λ r. ⌜ r ≡ bumped x ⌝ }
+{
+    one::bump(x)
+}
+'''
+PUBLIC = '`one/src/lib.rt:bump` `one/src/inner.rt:step` `one/src/inner.rt:shown` `grain/src/lib.rt:grain_bump`'
+TABLES = '''
+## Two wrong programs for each public call
+
+| call | a wrong program | another |
+|---|---|---|
+| `one/src/lib.rt:bump` | stays: `one/must-fail/stays.edit` | twice: `one/must-fail/twice.edit` |
+
+## Functions with a `requires`
+
+| crate | functions |
+|---|---|
+| `one` | `kept_inside` |
+
+## Last
+'''
+FILES = {
+    'crates/one/src/lib.rt': CODE,
+    'crates/one/src/inner.rt': INNER,
+    'crates/one/specs/One.antt': SPEC,
+    'crates/one/must-fail/stays.edit': '',
+    'crates/one/must-fail/twice.edit': '',
+    'crates/grain/src/lib.rt': GRAIN,
+}
 
 
 class Claims(unittest.TestCase):
-    def found(self, text):
+    def found(self, text, tables=TABLES, **changed):
         with tempfile.TemporaryDirectory() as folder:
             root = pathlib.Path(folder)
-            for path, content in (('crates/one/src/lib.rt', CODE), ('crates/one/src/inner.rt', INNER), ('crates/one/specs/One.antt', SPEC), ('docs/CLAIMS.md', text)):
+            for path, content in {**FILES, 'docs/CLAIMS.md': text + tables, **changed}.items():
                 (root / path).parent.mkdir(parents=True, exist_ok=True)
                 (root / path).write_text(content)
             return claims.problems(root)[0]
@@ -78,11 +118,32 @@ class Claims(unittest.TestCase):
         self.assertEqual(len(self.found(PUBLIC + ' `docs/NOTHING.md`')), 1)
 
     def test_public_function_left_out(self):
-        for name in ('one/src/lib.rt:bump', 'one/src/inner.rt:step', 'one/src/inner.rt:shown'):
+        for name in ('one/src/inner.rt:step', 'one/src/inner.rt:shown', 'grain/src/lib.rt:grain_bump'):
             self.assertEqual(len(self.found(PUBLIC.replace(f'`{name}`', '`one/specs/One.antt:bumped`'))), 1)
 
     def test_nothing_cited(self):
-        self.assertIn('docs/CLAIMS.md: no citation found', self.found('No claims.'))
+        self.assertIn('docs/CLAIMS.md: no citation found', self.found('No claims.', tables=''))
+
+    def test_public_function_without_a_contract(self):
+        code = {'crates/grain/src/lib.rt': GRAIN.replace('    ensures { λ r. ⌜ r ≡ bumped x ⌝ }\n', '')}
+        self.assertEqual(len(self.found(PUBLIC, **code)), 1)
+
+    def test_precondition_left_out(self):
+        self.assertEqual(len(self.found(PUBLIC, TABLES.replace('`kept_inside`', ''))), 1)
+
+    def test_precondition_that_is_none(self):
+        self.assertEqual(len(self.found(PUBLIC, TABLES.replace('`kept_inside`', '`kept_inside`, `own`'))), 1)
+
+    def test_call_with_a_precondition(self):
+        listed = TABLES.replace('`kept_inside`', '`kept_inside`, `bump`')
+        code = {'crates/one/src/lib.rt': CODE.replace('    ensures', '    requires { ⌜ x < 10 ⌝ }\n    ensures')}
+        self.assertEqual(len(self.found(PUBLIC, listed, **code)), 1)
+
+    def test_call_with_one_wrong_program(self):
+        self.assertEqual(len(self.found(PUBLIC, TABLES.replace('twice.edit', 'stays.edit'))), 1)
+
+    def test_call_without_a_row(self):
+        self.assertEqual(len(self.found(PUBLIC, TABLES.replace('`one/src/lib.rt:bump` |', '`one/src/inner.rt:shown` |'))), 1)
 
 
 if __name__ == '__main__':

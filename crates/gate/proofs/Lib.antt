@@ -8,3 +8,4 @@ pub mod PlusZero
 pub mod Energy
 pub mod Within
 pub mod RowWithin
+pub mod Demand

@@ -28,7 +28,8 @@ use Rattle.gate.specs.Answers.{rho, rhoAnswer}
 use Rattle.gate.specs.declared.Rho.the-variants.{Value}
 use Rattle.gate.proofs.PlaneSums.{lagged-is, energy-is}
 use Rattle.gate.proofs.Energy.{lagged-within}
-use Rattle.gate.proofs.Within.{Within, quotient-within}
+use Rattle.gate.specs.Within.{Within}
+use Rattle.gate.proofs.Within.{quotient-within}
 
 nothing-within : Within plusZero
 unfolding le ofBits

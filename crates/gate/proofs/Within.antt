@@ -13,17 +13,7 @@ use lib.Ieee.Fits.{round-is, down-pos, eq→eqb}
 use lib.Ieee.Order.{kept, drop, round-mono}
 use Rattle.laws.specs.Scaled.{ofScaled}
 use Rattle.laws.proofs.Finite.{scaled-val, div-at}
-
--- 1.0 and −1.0
-abbrev pub one : Float
-one = ofBits binary64 0x3ff0_0000_0000_0000
-
-abbrev pub minusOne : Float
-minusOne = ofBits binary64 0xbff0_0000_0000_0000
-
-pub record Within (x : Float) : Type 0 where
-  pub least : le minusOne x ≡ true
-  pub most : le x one ≡ true
+use Rattle.gate.specs.Within.{one, minusOne, Within}
 
 -- finite, of sign s, and at most 1 in size
 abbrev Small : Bool → Float → Type 0

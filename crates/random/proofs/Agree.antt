@@ -1,5 +1,5 @@
 -- The Rust's steps and the specification's text give the same state and the same answer, for every 16-bit state and at most 16 bits: each bit operator is taken to whole numbers. Assumes nothing.
-use mathlib.Core.Path.{_≡_, refl, _∙_}
+use mathlib.Core.Path.{_≡_, _∙_}
 use Prim.Native.Nat.{ℕ, _+_, _-_, _*_, _/_, _%_, _^_, _<_, _≤_}
 use native.Mathlib.Omega.{arith}
 use native.Mathlib.Nat.{div-one, mod-add-mod}

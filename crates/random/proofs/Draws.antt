@@ -1,6 +1,6 @@
 -- What a step gives: above 16 bits the refusal and the same register, else the top bits of the register as it moved. Assumes nothing.
-use mathlib.Core.Path.{_≡_, refl}
-use Prim.Native.Nat.{ℕ, _+_, _-_, _/_, _%_, _^_, _<_, _≤_}
+use mathlib.Core.Path.{_≡_}
+use Prim.Native.Nat.{ℕ, _+_, _-_, _/_, _^_, _<_, _≤_}
 use native.Mathlib.Omega.{arith}
 use native.Mathlib.Nat.{mod-one}
 use borrow.Author.Tests.{le-leb, lt-leb}

@@ -1,5 +1,5 @@
 -- `random::register::RandomRegister::stepped` meets its contract: the code makes the Rust's steps, which give what the text says. Assumes nothing.
-use mathlib.Core.Path.{_≡_, refl, sym}
+use mathlib.Core.Path.{_≡_, sym}
 use Prim.Native.Nat.{ℕ, _<_, _≤_, _*_, _/_, _%_, _^_}
 use native.Mathlib.Omega.{arith}
 use native.Mathlib.Nat.{div-one}

@@ -1,0 +1,88 @@
+-- "the sums of noise products that the calls make are cases of it": each f64 sum of an accepted gate or row correlation adds a product of demand 3 over a set of its positions, in the Rust's order. Assumes nothing.
+use mathlib.Core.Path.{_≡_, refl, _∙_}
+use mathlib.Core.List.{List}
+use Prim.Native.Nat.{ℕ, _-_}
+use native.Mathlib.Omega.{arith}
+use Rattle.frame.specs.Size.{chromaWidth, chromaHeight}
+use Rattle.frame.specs.Calls.{deepPlaneRefusal, lumaGateRefusal, chromaGateRefusal}
+use Rattle.frame.specs.declared.Shape.{Shape}
+use Rattle.frame.proofs.Accepted.{deep-plane-call, luma-gate-call, chroma-gate-call}
+use Rattle.noise.specs.Products.{Pair, pair, own, onward}
+use Rattle.noise.specs.Claim.{Limited, frameSamples, frameTop}
+use Rattle.noise.specs.Steps.{windowF, dotF}
+use Rattle.noise.proofs.Accepted.{accepted-samples, chroma-small}
+use Rattle.noise.proofs.Products.{frame-products-exact}
+use Rattle.noise.proofs.Steps.{window-positions, window-case, inside-on, dot-window, lag-window}
+use Rattle.gate.specs.RowCorrelation.{energyF}
+use Rattle.gate.specs.Demand.{Case, everywhere, before, RowSums, PairSums, LumaSums, ChromaSums}
+
+-- samples within the frame's limit
+abbrev Low : Pair → Type 0
+Low p = Limited frameSamples frameTop (own p)
+
+-- a noise and, of a plane of the same size, the one `lag` columns on
+lagged-case : (p q : Pair) (lag : ℕ) → q .width ≡ p .width → q .height ≡ p .height → Low p → Low q → Case (own p) (onward q lag) (before p lag) (windowF (own p) (onward q lag) 0 (p .height) 0 (p .width - lag))
+lagged-case p q lag wide high S T = record {
+  positions = window-positions (own p) (onward q lag) 0 (p .height) 0 (p .width - lag)
+      (λ y x h k l m. ((inside-on (p .height) y 0 (omega arith), inside-on (p .width) x 0 (omega arith)), (inside-on (q .height) y 0 (omega arith), inside-on (q .width) x lag (omega arith))));
+  added = window-case (own p) (onward q lag) 0 (p .height) 0 (p .width - lag);
+  exact = frame-products-exact (own p) (onward q lag) S T;
+}
+
+-- at one place
+place-case : (p q : Pair) → q .width ≡ p .width → q .height ≡ p .height → Low p → Low q → Case (own p) (own q) (everywhere p) (windowF (own p) (own q) 0 (p .height) 0 (p .width))
+place-case p q wide high S T = record {
+  positions = window-positions (own p) (own q) 0 (p .height) 0 (p .width)
+      (λ y x h k l m. ((inside-on (p .height) y 0 (omega arith), inside-on (p .width) x 0 (omega arith)), (inside-on (q .height) y 0 (omega arith), inside-on (q .width) x 0 (omega arith))));
+  added = window-case (own p) (own q) 0 (p .height) 0 (p .width);
+  exact = frame-products-exact (own p) (own q) S T;
+}
+
+dot-case : (p q : Pair) → q .width ≡ p .width → q .height ≡ p .height → Low p → Low q → Case (own p) (own q) (everywhere p) (dotF p q)
+dot-case p q wide high S T =
+    let c = place-case p q wide high S T in
+    record { positions = c .positions; added = dot-window p q wide high ∙ c .added; exact = c .exact }
+
+row-sums : (p : Pair) (lag : ℕ) → Low p → RowSums p lag
+unfolding energyF
+row-sums p lag S =
+    let c = lagged-case p p lag refl refl S S in
+    record {
+      energy = place-case p p refl refl S S;
+      lagged = record { positions = c .positions; added = lag-window p lag ∙ c .added; exact = c .exact };
+    }
+
+pair-sums : (p q : Pair) → q .width ≡ p .width → q .height ≡ p .height → Low p → Low q → PairSums p q
+pair-sums p q wide high S T = record {
+  first = dot-case p p refl refl S S;
+  second = dot-case q q refl refl T T;
+  cross = dot-case p q wide high S T;
+}
+
+-- ---- of accepted calls
+pub lag-h-rho-sums : (a b : List ℕ) (w h lag depth : ℕ) → deepPlaneRefusal w h depth a b ≡ 0 → RowSums (pair a b w h) lag
+lag-h-rho-sums a b w h lag depth e =
+    let k = deep-plane-call w h depth a b e in
+    row-sums (pair a b w h) lag (accepted-samples w h depth a b (k .size) (k .first) (k .second))
+
+module _ (s : Shape) (a b c d : List ℕ) where
+  abbrev lumaPlane : List ℕ → List ℕ → Pair
+  lumaPlane x y = pair x y (s .width) (s .height)
+
+  pub film-grain-probe-sums : lumaGateRefusal s a b c d ≡ 0 → LumaSums (lumaPlane a b) (lumaPlane c d)
+  film-grain-probe-sums e =
+      let k = luma-gate-call s a b c d e in
+      let S : Low (lumaPlane a b) = accepted-samples _ _ _ a b (k .shape .size) (k .first) (k .second) in
+      let T : Low (lumaPlane c d) = accepted-samples _ _ _ c d (k .shape .size) (k .third) (k .fourth) in
+      record { planes = pair-sums (lumaPlane a b) (lumaPlane c d) refl refl S T; row = lagged-case (lumaPlane a b) (lumaPlane a b) 1 refl refl S S }
+
+  abbrev chromaPlane : List ℕ → List ℕ → Pair
+  chromaPlane x y = pair x y (chromaWidth (s .format) (s .width)) (chromaHeight (s .format) (s .height))
+
+  pub chroma-noise-gate-sums : chromaGateRefusal s a b c d ≡ 0 → ChromaSums (chromaPlane a b) (chromaPlane c d)
+  chroma-noise-gate-sums e =
+      let k = chroma-gate-call s a b c d e in
+      let n = chroma-small (s .format) _ _ (k .shape .size) in
+      let S : Low (chromaPlane a b) = accepted-samples _ _ _ a b n (k .first) (k .second) in
+      let T : Low (chromaPlane c d) = accepted-samples _ _ _ c d n (k .third) (k .fourth) in
+      record { planes = pair-sums (chromaPlane a b) (chromaPlane c d) refl refl S T; row = row-sums (chromaPlane a b) 1 S }

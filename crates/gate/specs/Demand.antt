@@ -1,0 +1,44 @@
+-- "the sums of noise products that the calls make are cases of it": what that says of a gate and of the row correlation.
+use mathlib.Core.Path.{_≡_}
+use mathlib.Core.List.{List, map}
+use Prim.Native.Nat.{ℕ, _-_}
+use lib.Ieee.{Float}
+use Rattle.laws.specs.Window.{Place, window}
+use Rattle.laws.specs.FloatSums.{sumF}
+use Rattle.noise.specs.Products.{Pair, Factor, own, onward, productF}
+use Rattle.noise.specs.Claim.{frameSamples, frameTop, PositionsOf, Exact}
+use Rattle.noise.specs.Steps.{windowF, dotF, lagF}
+use Rattle.gate.specs.RowCorrelation.{energyF}
+
+-- a sum adds a product over a set of its positions, and demand 3 holds of that product
+pub record Case (u v : Factor) (places : List Place) (sum : Float) : Type 0 where
+  pub positions : PositionsOf u v places
+  pub added : sum ≡ sumF (map (productF u v) places)
+  pub exact : Exact frameSamples frameTop u v
+
+-- every place of a plane; without its last columns
+abbrev pub everywhere : Pair → List Place
+everywhere p = window 0 (p .height) 0 (p .width)
+
+abbrev pub before : Pair → ℕ → List Place
+before p lag = window 0 (p .height) 0 (p .width - lag)
+
+-- of the row correlation: Σ n² and Σ n(r, c) × n(r, c + lag)
+pub record RowSums (p : Pair) (lag : ℕ) : Type 0 where
+  pub energy : Case (own p) (own p) (everywhere p) (energyF p)
+  pub lagged : Case (own p) (onward p lag) (before p lag) (lagF p lag)
+
+-- of two frames' planes: Σ n₀², Σ n₁² and Σ n₀ × n₁
+pub record PairSums (p q : Pair) : Type 0 where
+  pub first : Case (own p) (own p) (everywhere p) (dotF p p)
+  pub second : Case (own q) (own q) (everywhere q) (dotF q q)
+  pub cross : Case (own p) (own q) (everywhere p) (dotF p q)
+
+-- of the luma gate: `lag / e0` has a loop of its own
+pub record LumaSums (p q : Pair) : Type 0 where
+  pub planes : PairSums p q
+  pub row : Case (own p) (onward p 1) (before p 1) (windowF (own p) (onward p 1) 0 (p .height) 0 (p .width - 1))
+
+pub record ChromaSums (p q : Pair) : Type 0 where
+  pub planes : PairSums p q
+  pub row : RowSums p 1
