@@ -1,0 +1,119 @@
+//! The Rust's side of the table, by the oracle.
+
+use crate::calls::Words;
+use crate::input::{Input, Planes};
+use crate::words::{coefficients, float, solution, whole};
+use oracle::RandomRegister;
+use oracle::reach;
+
+/// How often a register is stepped in one case.
+pub const STEPS: usize = 5;
+
+pub fn denoise_plane(input: &Input, out: &mut Planes) -> Words {
+    reach::denoise_plane(&input.frames[0].y, &mut out[0], input.width, input.height);
+    Words::new()
+}
+
+pub fn denoise_frame(input: &Input, out: &mut Planes) -> Words {
+    let frame = reach::denoise_frame(&input.frames[0]);
+    *out = [frame.y, frame.u, frame.v];
+    Words::new()
+}
+
+pub fn plane_sigma16(input: &Input, _: &mut Planes) -> Words {
+    let (src, den) = (&input.frames[0].y, &input.denoised[0].y);
+    vec![reach::plane_sigma16(src, den, input.depth)]
+}
+
+pub fn noise_estimate(input: &Input, _: &mut Planes) -> Words {
+    let found = reach::noise_estimate(&input.frames[0], &input.denoised[0]);
+    let luma = [found.sigma16].into_iter().chain(found.bin_sigma16);
+    let cb = [found.cb_sigma16].into_iter().chain(found.cb_bin_sigma16);
+    let cr = [found.cr_sigma16].into_iter().chain(found.cr_bin_sigma16);
+    luma.chain(cb).chain(cr).collect()
+}
+
+/// Counts and squares of the bins, which the Rust keeps inside.
+pub fn bins(input: &Input) -> Words {
+    let shift = input.depth - 8;
+    let (frame, copy) = (&input.frames[0], &input.denoised[0]);
+    let planes = [
+        (8, &frame.y, &copy.y),
+        (4, &frame.u, &copy.u),
+        (4, &frame.v, &copy.v),
+    ];
+    let mut words = Words::new();
+    for (bins, src, den) in planes {
+        let (mut counts, mut squares) = (vec![0; bins], vec![0; bins]);
+        for (&s, &d) in src.iter().zip(den) {
+            let bin = usize::from(s >> shift) / (256 / bins);
+            let noise = (i64::from(s) - i64::from(d)) >> shift;
+            counts[bin] += 1;
+            squares[bin] += (noise * noise) as u64;
+        }
+        words.extend(counts.into_iter().chain(squares));
+    }
+    words
+}
+
+pub fn lag_h_rho(input: &Input, _: &mut Planes) -> Words {
+    let (src, den) = (&input.frames[0].y, &input.denoised[0].y);
+    let lag = input.number as usize;
+    vec![float(reach::lag_h_rho(
+        src,
+        den,
+        input.width,
+        input.height,
+        lag,
+    ))]
+}
+
+pub fn film_grain_probe(input: &Input, _: &mut Planes) -> Words {
+    vec![reach::film_grain_probe(&input.frames, &input.denoised).into()]
+}
+
+pub fn chroma_noise_gate(input: &Input, plane: usize) -> Words {
+    let (frames, denoised) = (&input.frames, &input.denoised);
+    vec![reach::chroma_noise_gate(frames, denoised, plane, input.number).into()]
+}
+
+pub fn fit_chroma_corr(input: &Input, _: &mut Planes) -> Words {
+    let found = reach::fit_chroma_corr(&input.frames[0], &input.denoised[0]);
+    found.cb.into_iter().chain(found.cr).map(whole).collect()
+}
+
+pub fn ar_positions(input: &Input, _: &mut Planes) -> Words {
+    let places = reach::ar_positions(input.number as usize);
+    places
+        .iter()
+        .flat_map(|&(r, c)| [whole(r), whole(c)])
+        .collect()
+}
+
+pub fn fit_ar_lag(input: &Input, _: &mut Planes) -> Words {
+    let found = reach::fit_ar_lag(&input.frames[0], &input.denoised[0], input.number as usize);
+    coefficients(found.map(|f| (f.lag, [f.y, f.cb, f.cr])))
+}
+
+pub fn solve_normal(input: &Input, _: &mut Planes) -> Words {
+    let order = input.number as usize;
+    let rows = input.system.a[..order].iter();
+    let a = rows.map(|row| row[..order].to_vec()).collect();
+    solution(reach::solve_normal(a, input.system.b[..order].to_vec()))
+}
+
+pub fn quant_ar(input: &Input, _: &mut Planes) -> Words {
+    vec![whole(reach::quant_ar(input.system.float))]
+}
+
+pub fn grain_seed_for(input: &Input, _: &mut Planes) -> Words {
+    vec![reach::grain_seed_for(input.number as u32).into()]
+}
+
+pub fn register_next(input: &Input, out: &mut Planes) -> Words {
+    let mut register = RandomRegister::new(out[0][0]);
+    let bits = input.number as u32;
+    let drawn = (0..STEPS).map(|_| register.next(bits).into()).collect();
+    out[0][0] = register.state;
+    drawn
+}

@@ -1,0 +1,27 @@
+//! Answers as words, the same for both sides.
+
+use crate::calls::Words;
+
+/// A float by its bits; every NaN is one.
+pub fn float(x: f64) -> u64 {
+    if x.is_nan() { f64::NAN } else { x }.to_bits()
+}
+
+pub fn whole(x: i32) -> u64 {
+    i64::from(x) as u64
+}
+
+/// 0, or 1 and the solution.
+pub fn solution(found: Option<Vec<f64>>) -> Words {
+    found.map_or(vec![0], |x| {
+        [1].into_iter().chain(x.into_iter().map(float)).collect()
+    })
+}
+
+/// 0, or 1, the lag and the coefficients of Y, Cb and Cr.
+pub fn coefficients(found: Option<(u8, [Vec<i32>; 3])>) -> Words {
+    found.map_or(vec![0], |(lag, planes)| {
+        let taps = planes.into_iter().flatten().map(whole);
+        [1, lag.into()].into_iter().chain(taps).collect()
+    })
+}

@@ -1,0 +1,293 @@
+//! The figures of one frame, and of it and the next. Field names are those of the JSON report (docs/REPORT.md).
+
+use crate::noise::{Autocorrelation, correlation, noise};
+use crate::reel::{Still, Task};
+use anyhow::Result;
+use grain::{ArFit, Chroma, Format, NoiseEstimate, Refusal};
+use serde::Serialize;
+use std::sync::Arc;
+
+/// One figure for each plane; a monochrome clip has Y alone.
+#[derive(Debug, Clone, Serialize)]
+pub struct Planes<T> {
+    pub y: T,
+    pub cb: Option<T>,
+    pub cr: Option<T>,
+}
+
+impl<T> Planes<T> {
+    /// The planes that there are, with their names.
+    pub fn named(&self) -> impl Iterator<Item = (&'static str, &T)> {
+        let chroma = [("Cb", &self.cb), ("Cr", &self.cr)];
+        let chroma = chroma
+            .into_iter()
+            .filter_map(|(name, plane)| Some((name, plane.as_ref()?)));
+        [("Y", &self.y)].into_iter().chain(chroma)
+    }
+}
+
+impl Planes<Autocorrelation> {
+    pub fn add(&mut self, other: &Self) {
+        self.y.add(&other.y);
+        for (sums, more) in [(&mut self.cb, &other.cb), (&mut self.cr, &other.cr)] {
+            if let (Some(sums), Some(more)) = (sums, more) {
+                sums.add(more);
+            }
+        }
+    }
+}
+
+#[derive(Debug, Clone, Serialize)]
+pub struct FrameFigures {
+    /// From 0.
+    pub frame: usize,
+    /// The grain seed, the frame's number taken as its order hint.
+    pub seed: u16,
+    pub profile: Planes<Profile>,
+    /// Against the next frame; the last has none.
+    pub gates: Option<Planes<Gate>>,
+    /// At lags 1, 2 and 3; `None` is "no fit".
+    pub fits: Vec<Option<Fit<i32>>>,
+    /// How far chroma's noise follows luma's, in 64ths, where no neighbour has a tap.
+    pub chroma_taps: Option<ChromaTaps<i32>>,
+}
+
+#[derive(Debug, Clone, Copy, Serialize)]
+pub struct ChromaTaps<T> {
+    pub cb: T,
+    pub cr: T,
+}
+
+/// Noise by intensity. Sigma is the root mean square in 8-bit steps.
+#[derive(Debug, Clone, Serialize)]
+pub struct Profile {
+    pub sigma: f64,
+    pub bins: Vec<Bin>,
+}
+
+#[derive(Debug, Clone, Serialize)]
+pub struct Bin {
+    /// The lowest and the highest intensity, in 8-bit steps.
+    pub from: i32,
+    pub to: i32,
+    pub sigma: f64,
+    pub count: u64,
+    pub squares: u64,
+    /// False where the bin has too few samples, and sigma is the plane's.
+    pub own: bool,
+}
+
+impl Profile {
+    /// Of each bin its sigma, count and squares. For a sigma of its own a bin wants a hundredth of the samples, and no
+    /// fewer than 64 of luma's eight bins or 32 of chroma's four.
+    pub fn new(sigma: f64, bins: impl IntoIterator<Item = (f64, u64, u64)>) -> Self {
+        let bins: Vec<_> = bins.into_iter().collect();
+        let samples: u64 = bins.iter().map(|(_, count, _)| count).sum();
+        let step = 256 / bins.len() as i32;
+        let least = (samples / 100).max(if bins.len() == 8 { 64 } else { 32 });
+        let bin = |(at, (sigma, count, squares))| Bin {
+            from: at as i32 * step,
+            to: (at as i32 + 1) * step - 1,
+            sigma,
+            count,
+            squares,
+            own: count >= least,
+        };
+        Profile {
+            sigma,
+            bins: bins.into_iter().enumerate().map(bin).collect(),
+        }
+    }
+
+    pub fn samples(&self) -> u64 {
+        self.bins.iter().map(|bin| bin.count).sum()
+    }
+}
+
+impl<const BINS: usize> From<&grain::Profile<BINS>> for Profile {
+    fn from(found: &grain::Profile<BINS>) -> Self {
+        let steps = |sigma16: u64| sigma16 as f64 / 16.0;
+        let bins = found
+            .bins
+            .iter()
+            .map(|bin| (steps(bin.sigma16), bin.count, bin.squares));
+        Profile::new(steps(found.sigma16), bins)
+    }
+}
+
+/// A gate's answer, and the figures that it looks at.
+#[derive(Debug, Clone, Serialize)]
+pub struct Gate {
+    pub grain: bool,
+    /// The first test that fails, where the answer is no.
+    pub why: Option<&'static str>,
+    /// Of the first frame's plane.
+    pub sigma: f64,
+    /// Of the first frame's noise with itself one column on.
+    pub row_correlation: f64,
+    /// Of the two frames' noises; `None` where one has no noise.
+    pub frame_correlation: Option<f64>,
+}
+
+/// The gates' limits: sigma is at least this (luma, chroma), and the correlations' magnitudes are below these.
+pub const LEAST_SIGMA: [f64; 2] = [1.0, 0.5];
+pub const ROW_LIMIT: f64 = 0.75;
+pub const FRAME_LIMIT: f64 = 0.4;
+
+impl Gate {
+    /// The figures behind an answer. The planes are the first frame's source and denoised, then the second's.
+    fn new(
+        grain: bool,
+        least_sigma: f64,
+        sigma16: u64,
+        [s0, d0, s1, d1]: [&[u16]; 4],
+        (width, height): (usize, usize),
+        depth: u8,
+    ) -> Result<Self, Refusal> {
+        let sigma = sigma16 as f64 / 16.0;
+        let row = grain::lag_h_rho(s0, d0, width, height, 1, depth)?;
+        let between = correlation([s0, d0], [s1, d1]);
+        let failed = if sigma < least_sigma {
+            "sigma is too low"
+        } else if row.abs() >= ROW_LIMIT {
+            "the correlation along a row is too strong"
+        } else if between.is_none() {
+            "a frame has no noise"
+        } else {
+            "the correlation from frame to frame is too strong"
+        };
+        Ok(Gate {
+            grain,
+            why: (!grain).then_some(failed),
+            sigma,
+            row_correlation: row,
+            frame_correlation: between,
+        })
+    }
+}
+
+/// Auto-regressive coefficients in 64ths, in the order of the neighbours; chroma has a luma tap besides. Of a frame they
+/// are whole numbers, of a clip their spread.
+#[derive(Debug, Clone, Serialize)]
+pub struct Fit<T> {
+    pub lag: u8,
+    pub y: Vec<T>,
+    pub cb: Option<ChromaFit<T>>,
+    pub cr: Option<ChromaFit<T>>,
+}
+
+#[derive(Debug, Clone, Serialize)]
+pub struct ChromaFit<T> {
+    pub coefficients: Vec<T>,
+    pub luma_tap: T,
+}
+
+impl<T> Fit<T> {
+    /// A plane's coefficients and luma tap.
+    pub fn plane(&self, name: &str) -> Option<(&[T], Option<&T>)> {
+        let chroma = match name {
+            "Y" => return Some((&self.y, None)),
+            "Cb" => self.cb.as_ref()?,
+            _ => self.cr.as_ref()?,
+        };
+        Some((&chroma.coefficients, Some(&chroma.luma_tap)))
+    }
+}
+
+impl Fit<i32> {
+    fn new(found: ArFit, colour: bool) -> Self {
+        let chroma = |mut coefficients: Vec<i32>| {
+            let luma_tap = coefficients.pop()?;
+            colour.then_some(ChromaFit {
+                coefficients,
+                luma_tap,
+            })
+        };
+        Fit {
+            lag: found.lag,
+            y: found.y,
+            cb: chroma(found.cb),
+            cr: chroma(found.cr),
+        }
+    }
+}
+
+/// The figures of a task's frame.
+pub fn figures(task: &Task) -> Result<FrameFigures> {
+    let still = &*task.first;
+    let (source, denoised) = (still.source(), still.denoised()?);
+    let asked = |refusal| still.refused(refusal);
+    let estimate = grain::noise_estimate(&source, &denoised).map_err(asked)?;
+    let taps = grain::fit_chroma_corr(&source, &denoised).map_err(asked)?;
+    let colour = source.shape.format != Format::Monochrome;
+    let fit = |lag| {
+        let found = grain::fit_ar_lag(&source, &denoised, lag).map_err(asked)?;
+        Ok(found.map(|found| Fit::new(found, colour)))
+    };
+    let gates = |second: &Arc<Still>| gates(still, second, &estimate);
+    Ok(FrameFigures {
+        frame: still.index,
+        seed: grain::grain_seed_for(still.index as u32),
+        profile: Planes {
+            y: (&estimate.luma).into(),
+            cb: colour.then(|| (&estimate.cb).into()),
+            cr: colour.then(|| (&estimate.cr).into()),
+        },
+        gates: task.second.as_ref().map(gates).transpose()?,
+        fits: (1..=3).map(fit).collect::<Result<_>>()?,
+        chroma_taps: colour.then_some(ChromaTaps {
+            cb: taps.cb,
+            cr: taps.cr,
+        }),
+    })
+}
+
+/// The gates' answers to a frame and the next.
+fn gates(first: &Still, second: &Still, estimate: &NoiseEstimate) -> Result<Planes<Gate>> {
+    let frames = [
+        first.source(),
+        first.denoised()?,
+        second.source(),
+        second.denoised()?,
+    ];
+    let [s0, d0, s1, d1] = &frames;
+    let (shape, colour) = (s0.shape, s0.shape.format != Format::Monochrome);
+    let luma = || {
+        let sigma16 = estimate.luma.sigma16;
+        let grain = grain::film_grain_probe(s0, d0, s1, d1)?;
+        let planes = [s0.y, d0.y, s1.y, d1.y];
+        Gate::new(
+            grain,
+            LEAST_SIGMA[0],
+            sigma16,
+            planes,
+            (shape.width, shape.height),
+            shape.depth,
+        )
+    };
+    let chroma = |plane, sigma16| {
+        let grain = grain::chroma_noise_gate(s0, d0, s1, d1, plane, sigma16)?;
+        let planes = [s0, d0, s1, d1].map(|frame| frame.chroma(plane));
+        let size = (shape.chroma_width(), shape.chroma_height());
+        Gate::new(grain, LEAST_SIGMA[1], sigma16, planes, size, shape.depth)
+    };
+    let asked = |refusal| second.refused(refusal);
+    let chroma = |plane, sigma16| colour.then(|| chroma(plane, sigma16)).transpose();
+    Ok(Planes {
+        y: luma().map_err(asked)?,
+        cb: chroma(Chroma::Cb, estimate.cb.sigma16).map_err(asked)?,
+        cr: chroma(Chroma::Cr, estimate.cr.sigma16).map_err(asked)?,
+    })
+}
+
+/// The autocorrelation of each plane's noise.
+pub fn autocorrelation(still: &Still) -> Result<Planes<Autocorrelation>> {
+    let (source, denoised) = (still.source(), still.denoised()?);
+    let of = |s, d, width| Autocorrelation::of(&noise(s, d), width);
+    let (shape, colour) = (source.shape, source.shape.format != Format::Monochrome);
+    Ok(Planes {
+        y: of(source.y, denoised.y, shape.width),
+        cb: colour.then(|| of(source.cb, denoised.cb, shape.chroma_width())),
+        cr: colour.then(|| of(source.cr, denoised.cr, shape.chroma_width())),
+    })
+}

@@ -1,0 +1,351 @@
+//! `grain report`: the figures of the library, for every format and depth, in JSON and as a table.
+
+mod common;
+
+use common::{FORMATS, Planes, clip, command, folder, json, run, sample, written};
+use grain::{Chroma, Format, Frame, Shape};
+use serde_json::{Value, json};
+use std::fs;
+use std::io::{Read, Write};
+use std::process::Stdio;
+
+/// Coefficients that the sample's script states, by the name it gives them.
+fn known(script: &str, name: &str) -> Vec<i64> {
+    let start = format!("{name} = (");
+    let line = script
+        .lines()
+        .find_map(|line| line.strip_prefix(&start))
+        .unwrap();
+    let list = line.strip_suffix(')').unwrap();
+    list.split(", ").map(|word| word.parse().unwrap()).collect()
+}
+
+/// The largest distance of two lists.
+fn apart(found: &[i64], known: &[i64]) -> i64 {
+    assert_eq!(found.len(), known.len());
+    found
+        .iter()
+        .zip(known)
+        .map(|(a, b)| (a - b).abs())
+        .max()
+        .unwrap()
+}
+
+fn whole(list: &Value) -> Vec<i64> {
+    list.as_array()
+        .unwrap()
+        .iter()
+        .map(|n| n.as_i64().unwrap())
+        .collect()
+}
+
+#[test]
+fn known_coefficients_come_back() {
+    let (folder, script) = sample();
+    let report = json(
+        folder,
+        &["report", "grain.y4m", "--denoised", "clean.y4m", "--json"],
+    );
+    assert_eq!(report["clip"]["denoised"], "clean.y4m");
+    let frames = report["frames"].as_array().unwrap();
+    assert_eq!(frames.len(), 6);
+    for frame in frames {
+        let fit = &frame["fits"][0];
+        assert!(
+            apart(&whole(&fit["y"]), &known(script, "LUMA")) <= 1,
+            "{fit}"
+        );
+        for (plane, name) in [("cb", "CB"), ("cr", "CR")] {
+            let mut found = whole(&fit[plane]["coefficients"]);
+            found.push(fit[plane]["luma_tap"].as_i64().unwrap());
+            assert!(apart(&found, &known(script, name)) <= 1, "{fit}");
+        }
+        // What the higher lags have besides is the noise of an estimate.
+        let near = whole(&frame["fits"][1]["y"]);
+        let (inner, outer): (Vec<_>, Vec<_>) = near
+            .iter()
+            .enumerate()
+            .partition(|(at, _)| [6, 7, 8, 11].contains(at));
+        let inner: Vec<i64> = inner.into_iter().map(|(_, n)| *n).collect();
+        assert!(apart(&inner, &known(script, "LUMA")) <= 1, "{near:?}");
+        assert!(outer.iter().all(|(_, n)| n.abs() <= 1), "{near:?}");
+    }
+    let gates = &report["clip"]["gates"];
+    for plane in ["y", "cb", "cr"] {
+        assert_eq!(
+            (&gates[plane]["first"], &gates[plane]["passed"]),
+            (&json!(true), &json!(5))
+        );
+    }
+}
+
+#[test]
+fn the_table_has_the_neighbourhood() {
+    let (folder, script) = sample();
+    let words = ["report", "grain.y4m", "--denoised", "clean.y4m", "--brief"];
+    let table = String::from_utf8(written(folder, &words)).unwrap();
+    assert!(
+        table.starts_with("grain.y4m: 320×240, 10 bits, 4:2:0, 6 frames\n"),
+        "{table}"
+    );
+    assert!(!table.contains('\x1b'), "no colours in a pipe");
+    assert!(
+        table.lines().all(|line| line.chars().count() <= 80),
+        "{table}"
+    );
+    let luma = known(script, "LUMA");
+    let row = format!("{:>10}{:>4}{:>4}", luma[0], luma[1], luma[2]);
+    assert!(
+        table.lines().any(|line| line.starts_with(&row)),
+        "{row:?} in {table}"
+    );
+}
+
+/// The library's figures of one frame, laid out as the report has them.
+fn frame_figures(at: usize, frames: &[(Planes, Planes)]) -> Value {
+    let (source, denoised) = (frames[at].0.lent(), frames[at].1.lent());
+    let estimate = grain::noise_estimate(&source, &denoised).unwrap();
+    let colour = source.shape.format != Format::Monochrome;
+    let steps = |sigma16: u64| sigma16 as f64 / 16.0;
+    let chroma = |value: Value| if colour { value } else { Value::Null };
+    let fits: Vec<Value> = (1..=3)
+        .map(
+            |lag| match grain::fit_ar_lag(&source, &denoised, lag).unwrap() {
+                None => Value::Null,
+                Some(fit) => {
+                    let split = |list: &[i32]| {
+                        let (tap, list) = list.split_last().unwrap();
+                        chroma(json!({"coefficients": list, "luma_tap": tap}))
+                    };
+                    json!({"lag": lag, "y": fit.y, "cb": split(&fit.cb), "cr": split(&fit.cr)})
+                }
+            },
+        )
+        .collect();
+    let gates = frames.get(at + 1).map(|next| {
+        let pair: [Frame; 4] = [source, denoised, next.0.lent(), next.1.lent()];
+        let [a, b, c, d] = &pair;
+        let gate = |plane, sigma16| {
+            chroma(json!([
+                steps(sigma16),
+                grain::chroma_noise_gate(a, b, c, d, plane, sigma16).unwrap()
+            ]))
+        };
+        let luma = grain::film_grain_probe(a, b, c, d).unwrap();
+        json!({
+            "y": [steps(estimate.luma.sigma16), luma],
+            "cb": gate(Chroma::Cb, estimate.cb.sigma16),
+            "cr": gate(Chroma::Cr, estimate.cr.sigma16),
+        })
+    });
+    let taps = grain::fit_chroma_corr(&source, &denoised).unwrap();
+    json!({
+        "frame": at,
+        "seed": grain::grain_seed_for(at as u32),
+        "profile": {
+            "y": profile(&estimate.luma),
+            "cb": chroma(profile(&estimate.cb)),
+            "cr": chroma(profile(&estimate.cr)),
+        },
+        "gates": gates,
+        "fits": fits,
+        "chroma_taps": chroma(json!({"cb": taps.cb, "cr": taps.cr})),
+    })
+}
+
+fn profile<const BINS: usize>(found: &grain::Profile<BINS>) -> Value {
+    let bin = |bin: &grain::Bin| json!([bin.sigma16 as f64 / 16.0, bin.count, bin.squares]);
+    let bins: Vec<Value> = found.bins.iter().map(bin).collect();
+    json!({"sigma": found.sigma16 as f64 / 16.0, "bins": bins})
+}
+
+/// What a gate's figures say: by them the library must have answered.
+fn passes(plane: &str, gate: &Value) -> bool {
+    let number = |name: &str| gate[name].as_f64();
+    let least = if plane == "y" { 1.0 } else { 0.5 };
+    number("sigma").unwrap() >= least
+        && number("row_correlation").unwrap().abs() < 0.75
+        && number("frame_correlation").is_some_and(|rho| rho.abs() < 0.4)
+}
+
+/// The report's frame with what only the report has taken out: a gate becomes its sigma and answer, a bin its numbers.
+fn plain(mut frame: Value) -> Value {
+    for plane in ["y", "cb", "cr"] {
+        let gate = &mut frame["gates"];
+        if gate.is_object() && gate[plane].is_object() {
+            assert_eq!(gate[plane]["grain"] == true, passes(plane, &gate[plane]));
+            gate[plane] = json!([gate[plane]["sigma"], gate[plane]["grain"]]);
+        }
+        let profile = &mut frame["profile"][plane];
+        if profile.is_object() {
+            let bins = profile["bins"].as_array_mut().unwrap();
+            bins.iter_mut()
+                .for_each(|bin| *bin = json!([bin["sigma"], bin["count"], bin["squares"]]));
+        }
+    }
+    frame
+}
+
+#[test]
+fn every_format_and_depth_has_the_library_s_figures() {
+    let folder = folder("formats");
+    for format in FORMATS {
+        for depth in [8, 10, 12] {
+            let shape = Shape {
+                width: 37,
+                height: 23,
+                depth,
+                format,
+            };
+            let frames: Vec<Planes> = (0..3).map(|seed| Planes::random(shape, seed)).collect();
+            fs::write(folder.join("clip.y4m"), clip(&frames)).unwrap();
+            let report = json(&folder, &["report", "clip.y4m", "--json"]);
+            let clip = &report["clip"];
+            assert_eq!(
+                (&clip["width"], &clip["height"], &clip["depth"]),
+                (&json!(37), &json!(23), &json!(depth))
+            );
+            let pairs: Vec<_> = frames
+                .iter()
+                .map(|frame| (frame.clone(), frame.denoised()))
+                .collect();
+            for at in 0..3 {
+                assert_eq!(
+                    plain(report["frames"][at].clone()),
+                    frame_figures(at, &pairs),
+                    "{shape:?}"
+                );
+            }
+        }
+    }
+}
+
+/// Each reason for a no: the same noise again, a frame without noise next, no noise, noise that is alike along a row.
+#[test]
+fn a_gate_that_says_no_says_why() {
+    let folder = folder("why");
+    let shape = Shape {
+        width: 32,
+        height: 32,
+        depth: 8,
+        format: Format::Yuv444,
+    };
+    let filled = |sample: fn(u16) -> u16| Planes {
+        shape,
+        planes: [0, 1, 2].map(|_| (0..1024).map(sample).collect()),
+    };
+    let (noisy, flat) = (Planes::random(shape, 1), filled(|_| 159));
+    let halves = filled(|at| if at % 32 < 16 { 149 } else { 169 });
+    let frames = [&noisy, &noisy, &flat, &halves, &noisy].map(Planes::clone);
+    let copies = [&flat; 5].map(Planes::clone);
+    fs::write(folder.join("clip.y4m"), clip(&frames)).unwrap();
+    fs::write(folder.join("copy.y4m"), clip(&copies)).unwrap();
+    let report = json(
+        &folder,
+        &["report", "clip.y4m", "--denoised", "copy.y4m", "--json"],
+    );
+    let table = written(&folder, &["report", "clip.y4m", "--denoised", "copy.y4m"]);
+    let table = String::from_utf8(table).unwrap();
+    let reasons = [
+        "the correlation from frame to frame is too strong",
+        "a frame has no noise",
+        "sigma is too low",
+        "the correlation along a row is too strong",
+    ];
+    for (frame, reason) in reasons.into_iter().enumerate() {
+        for plane in ["y", "cb", "cr"] {
+            let gate = &report["frames"][frame]["gates"][plane];
+            assert_eq!(
+                (&gate["grain"], &gate["why"]),
+                (&json!(false), &json!(reason))
+            );
+        }
+        assert!(table.contains(&format!("since {reason}\n")), "{table}");
+    }
+}
+
+#[test]
+fn a_pipe_is_read_as_a_file_is() {
+    let (folder, _) = sample();
+    let file = written(folder, &["report", "grain.y4m"]);
+    let pipe = command(folder, &["report", "-"])
+        .stdin(fs::File::open(folder.join("grain.y4m")).unwrap())
+        .output()
+        .unwrap();
+    assert!(pipe.status.success());
+    let named = String::from_utf8(pipe.stdout)
+        .unwrap()
+        .replace("standard input", "grain.y4m");
+    assert_eq!(named, String::from_utf8(file).unwrap());
+}
+
+#[test]
+fn some_frames_alone() {
+    let (folder, _) = sample();
+    let all = json(folder, &["report", "grain.y4m", "--json"]);
+    let third = json(folder, &["report", "grain.y4m", "--every", "3", "--json"]);
+    assert_eq!(
+        (&third["clip"]["frames"], &third["clip"]["reported"]),
+        (&json!(6), &json!(2))
+    );
+    assert_eq!(third["frames"], json!([all["frames"][0], all["frames"][3]]));
+    let one = json(folder, &["report", "grain.y4m", "--frames", "1", "--json"]);
+    assert_eq!(
+        (&one["clip"]["frames"], &one["frames"][0]["gates"]),
+        (&json!(1), &Value::Null)
+    );
+    let brief = json(folder, &["report", "grain.y4m", "--brief", "--json"]);
+    assert_eq!(
+        (&brief["clip"], &brief["frames"]),
+        (&all["clip"], &json!([]))
+    );
+}
+
+#[test]
+fn the_plot_is_whole_or_not_there() {
+    let (samples, _) = sample();
+    let folder = folder("plot");
+    let clip = samples.join("grain.y4m");
+    let clip = clip.to_str().unwrap();
+    written(&folder, &["report", clip, "--brief", "--plot", "noise.svg"]);
+    let drawn = fs::read_to_string(folder.join("noise.svg")).unwrap();
+    assert!(drawn.starts_with("<svg") && drawn.trim_end().ends_with("</svg>"));
+    for plane in ["Y", "Cb", "Cr"] {
+        assert!(drawn.contains(&format!("{plane}: autocorrelation of the noise")));
+    }
+    let refused = run(&folder, &["report", clip, "--plot", "noise.pdf"]);
+    assert_eq!(refused.status.code(), Some(2));
+    assert!(String::from_utf8_lossy(&refused.stderr).contains("ends in .svg"));
+    assert!(
+        !run(
+            &folder,
+            &["report", clip, "--brief", "--plot", "no/such/folder.svg"]
+        )
+        .status
+        .success()
+    );
+    assert_eq!(fs::read_dir(&folder).unwrap().count(), 1, "only noise.svg");
+}
+
+#[test]
+fn a_reader_may_go_away() {
+    let (folder, _) = sample();
+    let mut child = command(folder, &["report", "-"])
+        .stdin(Stdio::piped())
+        .stdout(Stdio::piped())
+        .stderr(Stdio::piped())
+        .spawn()
+        .unwrap();
+    drop(child.stdout.take());
+    let bytes = fs::read(folder.join("grain.y4m")).unwrap();
+    child.stdin.take().unwrap().write_all(&bytes).unwrap();
+    let mut said = String::new();
+    child
+        .stderr
+        .take()
+        .unwrap()
+        .read_to_string(&mut said)
+        .unwrap();
+    assert!(child.wait().unwrap().success());
+    assert_eq!(said, "");
+}

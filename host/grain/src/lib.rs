@@ -1,0 +1,42 @@
+//! Film-grain figures for an AV1 encoder: safe functions over libgrain.a, whose every function is proved against its
+//! contract.
+//!
+//! The names are those of the Rust that the library ports. Planes are u16 samples in row order, lent by the caller;
+//! width and height are at most 4,096, and the depth is 8, 10 or 12 bits. A call asks its questions first and answers a
+//! [`Refusal`] with the first that fails, having changed nothing.
+//!
+//! ```
+//! use grain::{Format, Frame, Refusal, Shape};
+//!
+//! let shape = Shape { width: 64, height: 64, depth: 10, format: Format::Monochrome };
+//! let y: Vec<u16> = (0..4096u32).map(|i| 512 + (i * i % 11) as u16).collect();
+//! let frame = Frame { shape, y: &y, cb: &[], cr: &[] };
+//!
+//! let mut clean = vec![0; shape.luma_samples()];
+//! grain::denoise_frame(&frame, &mut clean, &mut [], &mut [])?;
+//! let denoised = Frame { y: &clean, ..frame };
+//!
+//! let profile = grain::noise_estimate(&frame, &denoised)?;
+//! assert_eq!(profile.luma.bins[4].count, 4096);
+//! assert_eq!(grain::noise_estimate(&frame, &Frame { y: &clean[1..], ..frame }), Err(Refusal::PlaneLength));
+//! # Ok::<(), Refusal>(())
+//! ```
+
+mod denoise;
+mod fit;
+mod frame;
+mod gate;
+mod profile;
+mod random;
+mod refusal;
+pub mod sys;
+
+pub use denoise::{denoise_frame, denoise_plane};
+pub use fit::{
+    ArFit, ChromaCorr, ar_positions, fit_ar_lag, fit_chroma_corr, quant_ar, solve_normal,
+};
+pub use frame::{Chroma, Format, Frame, Shape};
+pub use gate::{chroma_noise_gate, film_grain_probe, lag_h_rho};
+pub use profile::{Bin, NoiseEstimate, Profile, noise_estimate, plane_sigma16};
+pub use random::{RandomRegister, grain_seed_for};
+pub use refusal::Refusal;

@@ -1,0 +1,109 @@
+use crate::refusal::accepted;
+use crate::{Frame, Refusal, sys};
+
+/// Sixteen times the noise's root mean square, in 8-bit steps, to the nearest whole number; 0 of an empty plane.
+///
+/// ```
+/// assert_eq!(grain::plane_sigma16(&[1, 0, 0, 0], &[0; 4], 2, 2, 8)?, 8);
+/// # Ok::<(), grain::Refusal>(())
+/// ```
+pub fn plane_sigma16(
+    src: &[u16],
+    den: &[u16],
+    w: usize,
+    h: usize,
+    depth: u8,
+) -> Result<u64, Refusal> {
+    // SAFETY: each pointer is a slice's own, with the slice's length.
+    let found = unsafe {
+        sys::grain_plane_sigma16(
+            src.as_ptr(),
+            src.len(),
+            den.as_ptr(),
+            den.len(),
+            w,
+            h,
+            depth,
+        )
+    };
+    accepted(found.refusal).map(|()| found.sigma16)
+}
+
+/// The noise of the samples of one range of intensities.
+#[derive(Debug, Clone, Copy, PartialEq, Eq)]
+pub struct Bin {
+    /// The bin's own sigma16, or the plane's where the bin has too few samples.
+    pub sigma16: u64,
+    /// Samples in the bin.
+    pub count: u64,
+    /// The sum of their squared noises.
+    pub squares: u64,
+}
+
+/// The noise of a plane, whole and by intensity.
+#[derive(Debug, Clone, Copy, PartialEq, Eq)]
+pub struct Profile<const BINS: usize> {
+    pub sigma16: u64,
+    pub bins: [Bin; BINS],
+}
+
+/// The noise profile of a frame: eight luma bins, four of each chroma plane.
+#[derive(Debug, Clone, Copy, PartialEq, Eq)]
+pub struct NoiseEstimate {
+    pub luma: Profile<8>,
+    pub cb: Profile<4>,
+    pub cr: Profile<4>,
+}
+
+impl<const BINS: usize> From<sys::Profile<BINS>> for Profile<BINS> {
+    fn from(found: sys::Profile<BINS>) -> Self {
+        Profile {
+            sigma16: found.sigma16,
+            bins: std::array::from_fn(|i| Bin {
+                sigma16: found.bin_sigma16[i],
+                count: found.bin_count[i],
+                squares: found.bin_squares[i],
+            }),
+        }
+    }
+}
+
+/// The noise profile of a frame against its denoised copy.
+///
+/// ```
+/// use grain::{Format, Frame, Shape};
+///
+/// let shape = Shape { width: 16, height: 8, depth: 8, format: Format::Monochrome };
+/// let frame = Frame { shape, y: &[33; 128], cb: &[], cr: &[] };
+/// let denoised = Frame { y: &[31; 128], ..frame };
+/// let found = grain::noise_estimate(&frame, &denoised)?;
+/// assert_eq!(found.luma.sigma16, 32);
+/// assert_eq!((found.luma.bins[1].count, found.luma.bins[1].squares), (128, 512));
+/// assert_eq!(found.cb.sigma16, 0);
+/// # Ok::<(), grain::Refusal>(())
+/// ```
+pub fn noise_estimate(frame: &Frame, denoised: &Frame) -> Result<NoiseEstimate, Refusal> {
+    // SAFETY: each pointer is a slice's own, with the slice's length.
+    let found = unsafe {
+        sys::grain_noise_estimate(
+            frame.shape.lent(),
+            frame.y.as_ptr(),
+            frame.y.len(),
+            frame.cb.as_ptr(),
+            frame.cb.len(),
+            frame.cr.as_ptr(),
+            frame.cr.len(),
+            denoised.y.as_ptr(),
+            denoised.y.len(),
+            denoised.cb.as_ptr(),
+            denoised.cb.len(),
+            denoised.cr.as_ptr(),
+            denoised.cr.len(),
+        )
+    };
+    accepted(found.refusal).map(|()| NoiseEstimate {
+        luma: found.luma.into(),
+        cb: found.cb.into(),
+        cr: found.cr.into(),
+    })
+}

@@ -1,0 +1,246 @@
+//! The C interface as `include/grain.h` declares it. A slice crosses as a pointer and its number of elements.
+//!
+//! A caller of these functions answers for the pointers: each is aligned, not null, and good for as many elements as the
+//! number beside it says; what is written overlaps nothing else. The safe functions of this crate see to that.
+
+/// `grain_shape`
+#[repr(C)]
+#[derive(Debug, Clone, Copy)]
+pub struct Shape {
+    pub width: usize,
+    pub height: usize,
+    pub depth: u8,
+    pub format: u8,
+}
+
+/// `grain_sigma`
+#[repr(C)]
+#[derive(Debug, Clone, Copy)]
+pub struct Sigma {
+    pub refusal: u32,
+    pub sigma16: u64,
+}
+
+/// `grain_luma_profile` of 8 bins, `grain_chroma_profile` of 4
+#[repr(C)]
+#[derive(Debug, Clone, Copy)]
+pub struct Profile<const BINS: usize> {
+    pub sigma16: u64,
+    pub bin_sigma16: [u64; BINS],
+    pub bin_count: [u64; BINS],
+    pub bin_squares: [u64; BINS],
+}
+
+/// `grain_estimate`
+#[repr(C)]
+#[derive(Debug, Clone, Copy)]
+pub struct Estimate {
+    pub refusal: u32,
+    pub luma: Profile<8>,
+    pub cb: Profile<4>,
+    pub cr: Profile<4>,
+}
+
+/// `grain_rho`
+#[repr(C)]
+#[derive(Debug, Clone, Copy)]
+pub struct Rho {
+    pub refusal: u32,
+    pub value: f64,
+}
+
+/// `grain_gate`
+#[repr(C)]
+#[derive(Debug, Clone, Copy)]
+pub struct Gate {
+    pub refusal: u32,
+    pub yes: bool,
+}
+
+/// `grain_chroma_corr`
+#[repr(C)]
+#[derive(Debug, Clone, Copy)]
+pub struct ChromaCorr {
+    pub refusal: u32,
+    pub cb: i32,
+    pub cr: i32,
+}
+
+/// `grain_solution`
+#[repr(C)]
+#[derive(Debug, Clone, Copy)]
+pub struct Solution {
+    pub order: usize,
+    pub values: [f64; 25],
+}
+
+/// `grain_solved`
+#[repr(C)]
+#[derive(Debug, Clone, Copy)]
+pub struct Solved {
+    pub refusal: u32,
+    pub found: bool,
+    pub solution: Solution,
+}
+
+/// `grain_positions`
+#[repr(C)]
+#[derive(Debug, Clone, Copy)]
+pub struct Positions {
+    pub refusal: u32,
+    pub count: usize,
+    pub rows: [i32; 24],
+    pub columns: [i32; 24],
+}
+
+/// `grain_fit`
+#[repr(C)]
+#[derive(Debug, Clone, Copy)]
+pub struct Fit {
+    pub refusal: u32,
+    pub found: bool,
+    pub count: usize,
+    pub luma: [i32; 24],
+    pub cb: [i32; 25],
+    pub cr: [i32; 25],
+}
+
+/// `grain_draw`
+#[repr(C)]
+#[derive(Debug, Clone, Copy)]
+pub struct Draw {
+    pub refusal: u32,
+    pub value: u32,
+}
+
+unsafe extern "C" {
+    pub fn grain_denoise_plane(
+        src: *const u16,
+        src_len: usize,
+        dst: *mut u16,
+        dst_len: usize,
+        width: usize,
+        height: usize,
+    ) -> u32;
+
+    pub fn grain_denoise_frame(
+        s: Shape,
+        y: *const u16,
+        y_len: usize,
+        cb: *const u16,
+        cb_len: usize,
+        cr: *const u16,
+        cr_len: usize,
+        dy: *mut u16,
+        dy_len: usize,
+        dcb: *mut u16,
+        dcb_len: usize,
+        dcr: *mut u16,
+        dcr_len: usize,
+    ) -> u32;
+
+    pub fn grain_plane_sigma16(
+        src: *const u16,
+        src_len: usize,
+        den: *const u16,
+        den_len: usize,
+        width: usize,
+        height: usize,
+        depth: u8,
+    ) -> Sigma;
+
+    pub fn grain_noise_estimate(
+        s: Shape,
+        y: *const u16,
+        y_len: usize,
+        cb: *const u16,
+        cb_len: usize,
+        cr: *const u16,
+        cr_len: usize,
+        dy: *const u16,
+        dy_len: usize,
+        dcb: *const u16,
+        dcb_len: usize,
+        dcr: *const u16,
+        dcr_len: usize,
+    ) -> Estimate;
+
+    pub fn grain_lag_h_rho(
+        src: *const u16,
+        src_len: usize,
+        den: *const u16,
+        den_len: usize,
+        width: usize,
+        height: usize,
+        lag: usize,
+        depth: u8,
+    ) -> Rho;
+
+    pub fn grain_film_grain_probe(
+        s: Shape,
+        y0: *const u16,
+        y0_len: usize,
+        d0: *const u16,
+        d0_len: usize,
+        y1: *const u16,
+        y1_len: usize,
+        d1: *const u16,
+        d1_len: usize,
+    ) -> Gate;
+
+    pub fn grain_chroma_noise_gate(
+        s: Shape,
+        c0: *const u16,
+        c0_len: usize,
+        d0: *const u16,
+        d0_len: usize,
+        c1: *const u16,
+        c1_len: usize,
+        d1: *const u16,
+        d1_len: usize,
+        sigma16: u64,
+    ) -> Gate;
+
+    pub fn grain_fit_chroma_corr(
+        s: Shape,
+        y: *const u16,
+        y_len: usize,
+        cb: *const u16,
+        cb_len: usize,
+        cr: *const u16,
+        cr_len: usize,
+        dy: *const u16,
+        dy_len: usize,
+        dcb: *const u16,
+        dcb_len: usize,
+        dcr: *const u16,
+        dcr_len: usize,
+    ) -> ChromaCorr;
+
+    pub fn grain_quant_ar(x: f64) -> i32;
+
+    pub fn grain_solve_normal(a: *const [f64; 25], b: *const f64, order: usize) -> Solved;
+
+    pub fn grain_ar_positions(lag: usize) -> Positions;
+
+    pub fn grain_fit_ar_lag(
+        s: Shape,
+        y: *const u16,
+        y_len: usize,
+        cb: *const u16,
+        cb_len: usize,
+        cr: *const u16,
+        cr_len: usize,
+        dy: *const u16,
+        dy_len: usize,
+        dcb: *const u16,
+        dcb_len: usize,
+        dcr: *const u16,
+        dcr_len: usize,
+        lag: usize,
+    ) -> Fit;
+
+    pub fn grain_seed_for(order_hint: u32) -> u16;
+
+    pub fn grain_random_next(state: *mut u16, bits: u32) -> Draw;
+}
