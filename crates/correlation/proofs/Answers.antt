@@ -1,17 +1,14 @@
--- The answer of the call, from the number of its questions and its two taps; what the taps ask of an accepted frame. Assumes nothing.
+-- The answer of the call, from the number of its questions and its two taps. Assumes nothing.
 use mathlib.Core.Path.{_≡_, refl}
 use mathlib.Core.List.{List}
 use Prim.Native.Nat.{ℕ, zero, suc}
 use lib.IntN.{ℤ, pos}
 use Rattle.frame.specs.Size.{chromaWidth, chromaHeight}
-use Rattle.frame.specs.Questions.{accepted, lumaSamples, chromaSamples}
+use Rattle.frame.specs.Questions.{accepted}
 use Rattle.frame.specs.Calls.{frameRefusal}
 use Rattle.frame.specs.declared.Shape.{Shape}
-use Rattle.frame.proofs.Facts.{Known, Plane}
 use Rattle.noise.specs.Products.{pair}
 use Rattle.noise.specs.Quarters.{luma}
-use Rattle.noise.specs.AverageSums.{Component}
-use Rattle.noise.proofs.Accepted.{plane-of}
 use Rattle.correlation.specs.Steps.{corr}
 use Rattle.correlation.specs.Answer.{corrAnswer}
 use Rattle.correlation.specs.declared.ChromaCorr.{ChromaCorr}
@@ -33,16 +30,3 @@ module _ (s : Shape) (y cb cr dy dcb dcr : List ℕ) (n : ℕ) (asked : n ≡ fr
       → made 0 b r ≡ corrAnswer s y cb cr dy dcb dcr
   unfolding corrAnswer
   answered w h b r z x v blue red = rw (← asked, z, ← x, ← v, ← blue, ← red)
-
--- a chroma component of an accepted frame
-pub component : (s : Shape) (y dy c dc : List ℕ) (w h : ℕ) → Known s → w ≡ chromaWidth (s .format) (s .width) → h ≡ chromaHeight (s .format) (s .height)
-    → Plane (lumaSamples s) (s .depth) y → Plane (lumaSamples s) (s .depth) dy → Plane (chromaSamples s) (s .depth) c → Plane (chromaSamples s) (s .depth) dc
-    → Component (luma y dy (s .width) (s .height) (s .format)) c dc w h
-component s y dy c dc w h K x v p q u t = record {
-  columns = x;
-  rows = v;
-  narrow = K .size .wide;
-  low = K .size .high;
-  of-luma = plane-of _ _ _ y dy p q;
-  of-chroma = rw (x, v) (plane-of _ _ _ c dc u t);
-}

@@ -3,25 +3,24 @@ use mathlib.Core.Path.{_≡_, refl, sym, _∙_, ap}
 use mathlib.Core.Bool.{Bool, true, false}
 use mathlib.Core.List.{List}
 use Prim.Native.Nat.{ℕ, _*_, _^_, _≤_, zero-le}
-use native.Mathlib.Nat.{le-trans, le-of-eq, le-antisymm, lt-of-le-of-lt, not-suc-le-zero, mul-assoc, mul-comm, mul-le-mul, zero-add}
+use native.Mathlib.Nat.{le-trans, le-of-eq, le-antisymm, lt-of-le-of-lt, not-suc-le-zero, mul-assoc, mul-comm, mul-le-mul}
 use borrow.Author.Tests.{eqb-true}
 use lib.Dec.{eqb, lit≤, lit<}
 use lib.IntN.{ℤ, pos, negsuc, natAbs}
 use lib.ListN.{length}
 use lib.Ieee.{Float, binary64, div, le, ofInt, ofBits, round}
-use lib.Ieee.Exact.{HasValue}
 use mir.Syntax.{w64}
 use mir.Val.{toZ, ofZ}
 use mir.ValLaws.{toZ-ofZ}
 use Rattle.laws.specs.Scaled.{ofScaled}
 use Rattle.laws.proofs.Is.{sfits}
-use Rattle.laws.proofs.Scaled.{scaled-int, div-scaled}
 use Rattle.laws.proofs.Sums.{sum-bound}
 use Rattle.noise.specs.Average.{Luma}
 use Rattle.noise.specs.Products.{pair, own, average}
 use Rattle.noise.specs.Claim.{Limited, frameSamples, frameTop}
 use Rattle.noise.specs.AverageSums.{squaresAlong, productsAlong, averageSquares, averageProducts, Component}
 use Rattle.noise.proofs.Accepted.{plane-samples}
+use Rattle.noise.proofs.Divided.{divided}
 use Rattle.noise.proofs.Products.{frame-held}
 use Rattle.noise.proofs.ChromaSums.{narrow, low, squares-le, products-le}
 use Rattle.noise.proofs.FitWindow.{squares-sum, products-sum}
@@ -40,10 +39,6 @@ small-square = lit≤ tt
 
 small-product : 16380 * 4095 ≤ 2 ^ 28
 small-product = lit≤ tt
-
--- an exact sum over 2 ^ j, divided once
-divided : (j : ℕ) (z : ℤ) (y : Float) → natAbs z ≤ 2 ^ 53 → HasValue y false (2 ^ j) 1 → div binary64 (ofInt binary64 z) y ≡ ofScaled j z
-divided j z y b v = ap (λ (x : Float). div binary64 x y) (sym (scaled-int z)) ∙ div-scaled 0 j z y b (lit≤ tt) v ∙ ap (λ (k : ℕ). ofScaled k z) (zero-add j)
 
 -- a sum that an i64 holds, in a local
 held : (z : ℤ) → natAbs z ≤ 2 ^ 53 → toZ w64 (ofZ w64 z) ≡ z

@@ -2,3 +2,4 @@ pub mod Averages
 pub mod Taps
 pub mod Answers
 pub mod OnlyCr
+pub mod Demand

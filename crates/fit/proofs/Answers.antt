@@ -1,18 +1,14 @@
--- The answer of the call, from the number of its questions, luma's coefficients and chroma's; what a chroma component asks of an accepted frame. Assumes nothing.
+-- The answer of the call, from the number of its questions, luma's coefficients and chroma's. Assumes nothing.
 use mathlib.Core.Path.{_≡_, sym, _∙_}
 use mathlib.Core.Bool.{true, false}
 use mathlib.Core.List.{List}
 use Prim.Native.Nat.{ℕ}
 use lib.IntN.{ℤ}
 use Rattle.frame.specs.Size.{chromaWidth, chromaHeight}
-use Rattle.frame.specs.Questions.{lumaSamples, chromaSamples}
 use Rattle.frame.specs.Calls.{fitRefusal}
 use Rattle.frame.specs.declared.Shape.{Shape}
 use Rattle.frame.proofs.Refusal as refusal
-use Rattle.frame.proofs.Facts.{Known, Plane}
 use Rattle.noise.specs.Quarters.{luma}
-use Rattle.noise.specs.AverageSums.{Component}
-use Rattle.noise.proofs.Accepted.{plane-of}
 use Rattle.normal.specs.Normal.{neighbours}
 use Rattle.noise.specs.Products.{pair}
 use Rattle.fit.specs.Steps.{lumaFit, chromaFit}
@@ -45,16 +41,3 @@ module _ (s : Shape) (y cb cr dy dcb dcr : List ℕ) (lag n : ℕ) (asked : n �
         where
           found : _≡_ {A = Fit} (record { refusal = 0; found = true; count = neighbours lag; luma = x; cb = b; cr = r }) (fitOf s y cb cr dy dcb dcr lag)
           found = rw (← e, t, ← p, ← q, ← blue, ← red)
-
--- a chroma component of an accepted frame
-pub component : (s : Shape) (y dy c dc : List ℕ) (w h : ℕ) → Known s → w ≡ chromaWidth (s .format) (s .width) → h ≡ chromaHeight (s .format) (s .height)
-    → Plane (lumaSamples s) (s .depth) y → Plane (lumaSamples s) (s .depth) dy → Plane (chromaSamples s) (s .depth) c → Plane (chromaSamples s) (s .depth) dc
-    → Component (luma y dy (s .width) (s .height) (s .format)) c dc w h
-component s y dy c dc w h K x v p q u t = record {
-  columns = x;
-  rows = v;
-  narrow = K .size .wide;
-  low = K .size .high;
-  of-luma = plane-of _ _ _ y dy p q;
-  of-chroma = rw (x, v) (plane-of _ _ _ c dc u t);
-}

@@ -30,7 +30,8 @@ use Rattle.normal.proofs.Bounds.{square-bound}
 use Rattle.noise.specs.Products.{pair}
 use Rattle.fit.specs.Steps.{zeros, chromaFit}
 use Rattle.fit.specs.Sums.{exactFit, planeSums}
-use Rattle.fit.proofs.ExactFit.{divided, chroma-exact}
+use Rattle.noise.proofs.Divided.{divided}
+use Rattle.fit.proofs.ExactFit.{chroma-exact}
 
 -- 16.0
 abbrev pub sixteen : Float

@@ -1,39 +1,28 @@
--- "the sums of noise products that the calls make are cases of it": each sum of a fit adds a product of demand 3 over a set of its positions, in the Rust's order. Assumes nothing.
+-- "the sums of noise products that the calls make are cases of it": each sum of an accepted fit adds a product of demand 3 over a set of its positions, in the Rust's order. Assumes nothing.
 use mathlib.Core.Path.{_≡_, refl}
-use mathlib.Core.List.{List, map}
-use Prim.Native.Nat.{ℕ, _-_, _<_}
-use Rattle.laws.specs.Window.{Place, window}
-use Rattle.laws.specs.FloatSums.{sumF}
+use mathlib.Core.List.{List}
+use Prim.Native.Nat.{ℕ, _-_}
 use Rattle.frame.specs.Calls.{fitRefusal}
 use Rattle.frame.specs.declared.Shape.{Shape}
 use Rattle.frame.proofs.Accepted.{FitCall, fit-call}
 use Rattle.frame.proofs.Facts.{Small}
-use Rattle.noise.specs.Products.{Pair, Factor, average, own, productF, pair}
-use Rattle.noise.specs.Claim.{Limited, frameSamples, frameTop, PositionsOf, Exact}
+use Rattle.noise.specs.Products.{Pair, Factor, average, own, pair}
+use Rattle.noise.specs.Claim.{Limited, frameSamples, frameTop}
 use Rattle.noise.specs.Steps.{InFit, tap}
 use Rattle.noise.proofs.Accepted.{accepted-samples, chroma-small}
 use Rattle.noise.proofs.Products.{frame-products-exact}
 use Rattle.noise.proofs.Steps.{window-case}
 use Rattle.noise.proofs.FitWindow.{fit-positions, own-near}
-use Rattle.normal.specs.Normal.{factors}
 use Rattle.fit.specs.Steps.{neighbourOf, fitF}
+use Rattle.fit.specs.Demand.{FitCase, Sums, TapSums}
 use Rattle.fit.proofs.Near.{neighbour-near}
 use Rattle.fit.proofs.EachFit.{lumaOf, planeOf}
 
--- rows lag to h - 1, columns lag to w - lag - 1, in the Rust's order
-abbrev pub places : Pair → ℕ → List Place
-places plane lag = window lag (plane .height) lag (plane .width - lag)
-
-pub record Case (plane : Pair) (lag : ℕ) (u v : Factor) : Type 0 where
-  pub positions : PositionsOf u v (places plane lag)
-  pub sum : fitF plane lag u v ≡ sumF (map (productF u v) (places plane lag))
-  pub exact : Exact frameSamples frameTop u v
-
-case : (plane : Pair) (lag : ℕ) (u v : Factor) → InFit plane lag u → InFit plane lag v → Limited frameSamples frameTop u → Limited frameSamples frameTop v → Case plane lag u v
+case : (plane : Pair) (lag : ℕ) (u v : Factor) → InFit plane lag u → InFit plane lag v → Limited frameSamples frameTop u → Limited frameSamples frameTop v → FitCase plane lag u v
 unfolding fitF
 case plane lag u v a b S T = record {
   positions = fit-positions plane lag u v a b;
-  sum = window-case u v lag (plane .height) lag (plane .width - lag);
+  added = window-case u v lag (plane .height) lag (plane .width - lag);
   exact = frame-products-exact u v S T;
 }
 
@@ -45,30 +34,17 @@ module _ (s : Shape) (y cb cr dy dcb dcr : List ℕ) (lag : ℕ) (passed : fitRe
   size : Small (s .width) (s .height)
   size = facts .frame .shape .size
 
-  -- the sums of one plane
-  pub record Sums (plane : Pair) : Type 0 where
-    pub energy : Case plane lag (own plane) (own plane)
-    pub noises : (i j : ℕ) → i < factors lag → j < factors lag → Case plane lag (neighbourOf plane lag i) (neighbourOf plane lag j)
-    pub right : (i : ℕ) → i < factors lag → Case plane lag (neighbourOf plane lag i) (own plane)
-
-  sums : (plane : Pair) → Limited frameSamples frameTop (own plane) → Sums plane
+  sums : (plane : Pair) → Limited frameSamples frameTop (own plane) → Sums plane lag
   sums plane S = record {
     energy = case plane lag (own plane) (own plane) (own-near plane lag) (own-near plane lag) S S;
     noises = λ i j a b. case plane lag (neighbourOf plane lag i) (neighbourOf plane lag j) (neighbour-near plane lag i a) (neighbour-near plane lag j b) S S;
     right = λ i a. case plane lag (neighbourOf plane lag i) (own plane) (neighbour-near plane lag i a) (own-near plane lag) S S;
   }
 
-  pub luma-sums : Sums (pair y dy (s .width) (s .height))
+  pub luma-sums : Sums (pair y dy (s .width) (s .height)) lag
   luma-sums = sums (pair y dy (s .width) (s .height)) (accepted-samples _ _ _ y dy size (facts .frame .source .y) (facts .frame .copy .y))
 
-  -- a chroma plane's, with the luma average
-  pub record TapSums (c dc : List ℕ) : Type 0 where
-    pub alone : Sums (planeOf s c dc)
-    pub taps : (i : ℕ) → i < factors lag → Case (planeOf s c dc) lag (neighbourOf (planeOf s c dc) lag i) (average (lumaOf s y dy))
-    pub squares : Case (planeOf s c dc) lag (average (lumaOf s y dy)) (average (lumaOf s y dy))
-    pub tap-right : Case (planeOf s c dc) lag (average (lumaOf s y dy)) (own (planeOf s c dc))
-
-  chroma-sums : (c dc : List ℕ) → Limited frameSamples frameTop (own (planeOf s c dc)) → TapSums c dc
+  chroma-sums : (c dc : List ℕ) → Limited frameSamples frameTop (own (planeOf s c dc)) → TapSums (lumaOf s y dy) (planeOf s c dc) lag
   chroma-sums c dc S =
       let plane = planeOf s c dc in
       let t = average (lumaOf s y dy) in
@@ -81,8 +57,8 @@ module _ (s : Shape) (y cb cr dy dcb dcr : List ℕ) (lag : ℕ) (passed : fitRe
         tap-right = case plane lag t (own plane) a (own-near plane lag) L S;
       }
 
-  pub cb-sums : TapSums cb dcb
+  pub cb-sums : TapSums (lumaOf s y dy) (planeOf s cb dcb) lag
   cb-sums = chroma-sums cb dcb (accepted-samples _ _ _ cb dcb (chroma-small (s .format) _ _ size) (facts .frame .source .cb) (facts .frame .copy .cb))
 
-  pub cr-sums : TapSums cr dcr
+  pub cr-sums : TapSums (lumaOf s y dy) (planeOf s cr dcr) lag
   cr-sums = chroma-sums cr dcr (accepted-samples _ _ _ cr dcr (chroma-small (s .format) _ _ size) (facts .frame .source .cr) (facts .frame .copy .cr))

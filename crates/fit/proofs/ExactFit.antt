@@ -3,7 +3,7 @@ use mathlib.Core.Path.{_≡_, refl, sym, ap, _∙_}
 use mathlib.Core.Bool.{Bool, true, false, cond}
 use mathlib.Core.List.{List}
 use Prim.Native.Nat.{ℕ, _+_, _*_, _^_, _≤_, _<_}
-use native.Mathlib.Nat.{le-trans, zero-add}
+use native.Mathlib.Nat.{le-trans}
 use native.Mathlib.Omega.{arith}
 use lib.Dec.{ltb, lit≤}
 use lib.IntN.{ℤ, natAbs}
@@ -12,7 +12,6 @@ use lib.Ieee.Exact.{HasValue}
 use borrow.Author.Tests.{ltb-true, ltb-false, lt-ltb}
 use Rattle.laws.specs.Scaled.{ofScaled}
 use Rattle.laws.specs.Table.{tabulate}
-use Rattle.laws.proofs.Scaled.{scaled-int, div-scaled}
 use Rattle.noise.specs.Average.{Luma, quarters}
 use Rattle.noise.specs.Lines.{at, Plane}
 use Rattle.noise.specs.Grids.{noiseAt}
@@ -21,6 +20,7 @@ use Rattle.noise.specs.Claim.{Limited, frameSamples, frameTop}
 use Rattle.noise.specs.AverageSums.{Component}
 use Rattle.noise.proofs.Grids.{columnsFrom}
 use Rattle.noise.proofs.Accepted.{plane-samples}
+use Rattle.noise.proofs.Divided.{divided}
 use Rattle.noise.proofs.LineSums.{entry as line-entry}
 use Rattle.normal.specs.Normal.{neighbours, factors, entry, tapEntry, tapSquare}
 use Rattle.normal.specs.Calls.{Window}
@@ -33,10 +33,6 @@ use Rattle.fit.specs.Sums.{four, sumAt, rightAt, exactFit, planeSums}
 use Rattle.fit.proofs.Near.{last-own}
 use Rattle.fit.proofs.FloatEntries.{noise-sum, energy-sum, square-sum, tap-sum, own-sum}
 use Rattle.fit.proofs.Solutions.{matrix-same, right-same}
-
--- an exact sum over 2 ^ j, divided once
-pub divided : (j : ℕ) (z : ℤ) (y : Float) → natAbs z ≤ 2 ^ 53 → HasValue y false (2 ^ j) 1 → div binary64 (ofInt binary64 z) y ≡ ofScaled j z
-divided j z y b v = ap (λ (x : Float). div binary64 x y) (sym (scaled-int z)) ∙ div-scaled 0 j z y b (lit≤ tt) v ∙ ap (λ (k : ℕ). ofScaled k z) (zero-add j)
 
 module _ (source denoised : List ℕ) (w h lag : ℕ) (P : Plane w h source denoised) (wide : w ≤ 4096) (high : h ≤ 4096) where
   abbrev n : ℕ

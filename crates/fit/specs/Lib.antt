@@ -2,3 +2,4 @@ pub mod Steps
 pub mod Answer
 pub mod Sums
 pub mod Words
+pub mod Demand

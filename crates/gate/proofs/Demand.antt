@@ -8,13 +8,12 @@ use Rattle.frame.specs.Calls.{deepPlaneRefusal, lumaGateRefusal, chromaGateRefu
 use Rattle.frame.specs.declared.Shape.{Shape}
 use Rattle.frame.proofs.Accepted.{deep-plane-call, luma-gate-call, chroma-gate-call}
 use Rattle.noise.specs.Products.{Pair, pair, own, onward}
-use Rattle.noise.specs.Claim.{Limited, frameSamples, frameTop}
+use Rattle.noise.specs.Claim.{Limited, frameSamples, frameTop, Case}
 use Rattle.noise.specs.Steps.{windowF, dotF}
 use Rattle.noise.proofs.Accepted.{accepted-samples, chroma-small}
-use Rattle.noise.proofs.Products.{frame-products-exact}
-use Rattle.noise.proofs.Steps.{window-positions, window-case, inside-on, dot-window, lag-window}
+use Rattle.noise.proofs.Steps.{frame-case, onward-exists, dot-window, lag-window}
 use Rattle.gate.specs.RowCorrelation.{energyF}
-use Rattle.gate.specs.Demand.{Case, everywhere, before, RowSums, PairSums, LumaSums, ChromaSums}
+use Rattle.gate.specs.Demand.{everywhere, before, RowSums, PairSums, LumaSums, ChromaSums}
 
 -- samples within the frame's limit
 abbrev Low : Pair → Type 0
@@ -22,21 +21,15 @@ Low p = Limited frameSamples frameTop (own p)
 
 -- a noise and, of a plane of the same size, the one `lag` columns on
 lagged-case : (p q : Pair) (lag : ℕ) → q .width ≡ p .width → q .height ≡ p .height → Low p → Low q → Case (own p) (onward q lag) (before p lag) (windowF (own p) (onward q lag) 0 (p .height) 0 (p .width - lag))
-lagged-case p q lag wide high S T = record {
-  positions = window-positions (own p) (onward q lag) 0 (p .height) 0 (p .width - lag)
-      (λ y x h k l m. ((inside-on (p .height) y 0 (omega arith), inside-on (p .width) x 0 (omega arith)), (inside-on (q .height) y 0 (omega arith), inside-on (q .width) x lag (omega arith))));
-  added = window-case (own p) (onward q lag) 0 (p .height) 0 (p .width - lag);
-  exact = frame-products-exact (own p) (onward q lag) S T;
-}
+lagged-case p q lag wide high S T =
+    frame-case (own p) (onward q lag) 0 (p .height) 0 (p .width - lag)
+    (λ y x h k l m. (onward-exists p 0 y x k (omega arith), onward-exists q lag y x (omega arith) (omega arith))) S T
 
 -- at one place
 place-case : (p q : Pair) → q .width ≡ p .width → q .height ≡ p .height → Low p → Low q → Case (own p) (own q) (everywhere p) (windowF (own p) (own q) 0 (p .height) 0 (p .width))
-place-case p q wide high S T = record {
-  positions = window-positions (own p) (own q) 0 (p .height) 0 (p .width)
-      (λ y x h k l m. ((inside-on (p .height) y 0 (omega arith), inside-on (p .width) x 0 (omega arith)), (inside-on (q .height) y 0 (omega arith), inside-on (q .width) x 0 (omega arith))));
-  added = window-case (own p) (own q) 0 (p .height) 0 (p .width);
-  exact = frame-products-exact (own p) (own q) S T;
-}
+place-case p q wide high S T =
+    frame-case (own p) (own q) 0 (p .height) 0 (p .width)
+    (λ y x h k l m. (onward-exists p 0 y x k (omega arith), onward-exists q 0 y x (omega arith) (omega arith))) S T
 
 dot-case : (p q : Pair) → q .width ≡ p .width → q .height ≡ p .height → Low p → Low q → Case (own p) (own q) (everywhere p) (dotF p q)
 dot-case p q wide high S T =

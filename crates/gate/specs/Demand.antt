@@ -1,20 +1,11 @@
 -- "the sums of noise products that the calls make are cases of it": what that says of a gate and of the row correlation.
-use mathlib.Core.Path.{_≡_}
-use mathlib.Core.List.{List, map}
+use mathlib.Core.List.{List}
 use Prim.Native.Nat.{ℕ, _-_}
-use lib.Ieee.{Float}
 use Rattle.laws.specs.Window.{Place, window}
-use Rattle.laws.specs.FloatSums.{sumF}
-use Rattle.noise.specs.Products.{Pair, Factor, own, onward, productF}
-use Rattle.noise.specs.Claim.{frameSamples, frameTop, PositionsOf, Exact}
+use Rattle.noise.specs.Products.{Pair, own, onward}
+use Rattle.noise.specs.Claim.{Case}
 use Rattle.noise.specs.Steps.{windowF, dotF, lagF}
 use Rattle.gate.specs.RowCorrelation.{energyF}
-
--- a sum adds a product over a set of its positions, and demand 3 holds of that product
-pub record Case (u v : Factor) (places : List Place) (sum : Float) : Type 0 where
-  pub positions : PositionsOf u v places
-  pub added : sum ≡ sumF (map (productF u v) places)
-  pub exact : Exact frameSamples frameTop u v
 
 -- every place of a plane; without its last columns
 abbrev pub everywhere : Pair → List Place

@@ -1,11 +1,16 @@
 -- The planes of an accepted call, luma and chroma, are planes that the kernels take, and within the claim's limit. Assumes nothing.
+use mathlib.Core.Path.{_≡_}
 use mathlib.Core.List.{List}
 use Prim.Native.Nat.{ℕ, _*_, _≤_}
 use native.Mathlib.Nat.{le-refl, le-trans}
 use Rattle.frame.specs.Size.{chromaWidth, chromaHeight}
+use Rattle.frame.specs.Questions.{lumaSamples, chromaSamples}
+use Rattle.frame.specs.declared.Shape.{Shape}
 use Rattle.frame.proofs.Size.{chroma-width-le, chroma-height-le}
-use Rattle.frame.proofs.Facts.{Small, Plane}
+use Rattle.frame.proofs.Facts.{Small, Known, Plane}
 use Rattle.noise.specs.Lines as lines
+use Rattle.noise.specs.Quarters.{luma}
+use Rattle.noise.specs.AverageSums.{Component}
 use Rattle.noise.specs.Claim.{Samples, frameSamples, frameTop}
 use Rattle.noise.proofs.Products.{frame-samples}
 
@@ -27,3 +32,16 @@ plane-of w h depth source denoised P Q = record {
 pub plane-samples : (w h : ℕ) (source denoised : List ℕ) → w ≤ 4096 → h ≤ 4096 → lines.Plane w h source denoised → Samples frameSamples frameTop source denoised (w * h)
 plane-samples w h source denoised n l P =
     frame-samples w h 12 source denoised n l (le-refl 12) (λ i k. P .source-low i (rw (P .source-size) k)) (λ i k. P .denoised-low i (rw (P .denoised-size) k))
+
+-- a chroma component of an accepted frame
+pub component : (s : Shape) (y dy c dc : List ℕ) (w h : ℕ) → Known s → w ≡ chromaWidth (s .format) (s .width) → h ≡ chromaHeight (s .format) (s .height)
+    → Plane (lumaSamples s) (s .depth) y → Plane (lumaSamples s) (s .depth) dy → Plane (chromaSamples s) (s .depth) c → Plane (chromaSamples s) (s .depth) dc
+    → Component (luma y dy (s .width) (s .height) (s .format)) c dc w h
+component s y dy c dc w h K x v p q u t = record {
+  columns = x;
+  rows = v;
+  narrow = K .size .wide;
+  low = K .size .high;
+  of-luma = plane-of _ _ _ y dy p q;
+  of-chroma = rw (x, v) (plane-of _ _ _ c dc u t);
+}

@@ -7,6 +7,7 @@ pub mod Products
 pub mod Accepted
 pub mod Steps
 pub mod FitWindow
+pub mod Divided
 pub mod Fill
 pub mod Lines
 pub mod Shift

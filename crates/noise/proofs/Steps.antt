@@ -20,10 +20,10 @@ use Rattle.laws.proofs.FloatSums.{loops-sum}
 use Rattle.noise.specs.Noise.{noise, noiseF, place}
 use Rattle.noise.specs.Grids.{sumOver}
 use Rattle.noise.specs.Products.{Pair, Factor, own, onward, Inside, Exists, reached, productF, exactly, scale}
-use Rattle.noise.specs.Claim.{Limited, limitOf, PositionsOf}
+use Rattle.noise.specs.Claim.{Limited, limitOf, frameSamples, frameTop, PositionsOf, Case}
 use Rattle.noise.specs.Steps.{windowF, dotF, lagF}
 use Rattle.noise.proofs.Loops.{loop-rows, loop-tested}
-use Rattle.noise.proofs.Products.{products-exact}
+use Rattle.noise.proofs.Products.{products-exact, frame-products-exact}
 
 -- ---- a window all of whose places are positions
 abbrev pub Everywhere : Factor → Factor → ℕ → ℕ → ℕ → ℕ → Type 0
@@ -38,6 +38,14 @@ window-positions u v a b c d e = record {
 pub window-case : (u v : Factor) (a b c d : ℕ) → windowF u v a b c d ≡ sumF (map (productF u v) (window a b c d))
 unfolding windowF ofBits
 window-case u v a b c d = loops-sum (λ y x. productF u v (y, x)) a b c d
+
+-- of a frame's planes
+pub frame-case : (u v : Factor) (a b c d : ℕ) → Everywhere u v a b c d → Limited frameSamples frameTop u → Limited frameSamples frameTop v → Case u v (window a b c d) (windowF u v a b c d)
+frame-case u v a b c d e S T = record {
+  positions = window-positions u v a b c d e;
+  added = window-case u v a b c d;
+  exact = frame-products-exact u v S T;
+}
 
 module _ (limit top : ℕ) (u v : Factor) (H : Held (limitOf limit top u v)) (S : Limited limit top u) (T : Limited limit top v) where
   pub window-sum : (a b c d : ℕ) → Everywhere u v a b c d → windowF u v a b c d ≡ ofScaled (scale u v) (span (λ y. span (λ x. exactly u v (y, x)) c (d - c)) a (b - a))
@@ -62,7 +70,7 @@ own-place p r c = λ i. place (p .width) (add-zero r i) (add-zero c i)
 pub inside-on : (n r k : ℕ) → r + k < n → Inside n (pos r +ℤ pos k)
 inside-on n r k h = (leZ-yes (le→leb 0 (r + k) zero-le), ltZ-yes (lt→ltb (r + k) n h))
 
-onward-exists : (p : Pair) (lag r c : ℕ) → r < p .height → c + lag < p .width → Exists (onward p lag) (r, c)
+pub onward-exists : (p : Pair) (lag r c : ℕ) → r < p .height → c + lag < p .width → Exists (onward p lag) (r, c)
 onward-exists p lag r c h l = (inside-on (p .height) r 0 (omega arith), inside-on (p .width) c lag l)
 
 -- their exact sum

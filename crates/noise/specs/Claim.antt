@@ -1,10 +1,13 @@
 -- "For every noise product behind a fit or gate, every set of its positions, every order: the f64 sum from plus zero is the exact sum;
 -- for two disjoint parts, the sum over both, in any order, is the two parts' sums added in f64. (At most 4,096×4,096 samples below 2^12.)"
-use mathlib.Core.List.{List}
+use mathlib.Core.Path.{_≡_}
+use mathlib.Core.List.{List, map}
 use Prim.Native.Nat.{ℕ, _*_, _^_, _≤_, _<_}
 use lib.ListN.{getD}
+use lib.Ieee.{Float}
 use Rattle.laws.specs.Window.{Place}
 use Rattle.laws.specs.Sets.{In, NoDup}
+use Rattle.laws.specs.FloatSums.{sumF}
 use Rattle.laws.specs.Law.{Limit, ExactSums}
 use Rattle.noise.specs.Products.{Factor, noiseFrom, average, Exists, productF, exactly, scale}
 
@@ -38,3 +41,9 @@ pub record PositionsOf (u v : Factor) (ps : List Place) : Type 0 where
 -- the claim, of any set of its positions: every set within it, in every order, has an exact sum, and two parts add up
 abbrev pub Exact : ℕ → ℕ → Factor → Factor → Type 0
 Exact limit top u v = (all : List Place) → PositionsOf u v all → ExactSums (limitOf limit top u v) all (productF u v) (exactly u v)
+
+-- "the sums of noise products that the calls make are cases of it": a sum adds a product over a set of its positions, and the claim holds of that product
+pub record Case (u v : Factor) (places : List Place) (sum : Float) : Type 0 where
+  pub positions : PositionsOf u v places
+  pub added : sum ≡ sumF (map (productF u v) places)
+  pub exact : Exact frameSamples frameTop u v

@@ -8,7 +8,8 @@ use Rattle.noise.specs.Average.{Luma}
 use Rattle.noise.specs.Quarters.{luma}
 use Rattle.noise.specs.AverageSums.{Component}
 use Rattle.correlation.proofs.Averages.{sums-small, tap-is}
-use Rattle.correlation.proofs.Answers.{refused, answered, component}
+use Rattle.noise.proofs.Accepted.{component}
+use Rattle.correlation.proofs.Answers.{refused, answered}
 use Rattle.correlation.proofs.fit_chroma_corr.Statement.{statement}
 use Rattle.correlation.proofs.fit_chroma_corr.Tie as tie
 

@@ -6,7 +6,8 @@ use Rattle.frame.proofs.Accepted.{FitCall, fit-call}
 use Rattle.noise.proofs.Accepted.{plane-of}
 use Rattle.normal.proofs.Sizes.{neighbours-le}
 use Rattle.fit.specs.Answer.{firstOf}
-use Rattle.fit.proofs.Answers.{refused, no-fit, fitted, component}
+use Rattle.noise.proofs.Accepted.{component}
+use Rattle.fit.proofs.Answers.{refused, no-fit, fitted}
 use borrow.Author.Needs.{needs}
 use Rattle.fit.proofs.fit_ar_lag.Statement.{statement}
 use Rattle.fit.proofs.fit_ar_lag.Tie as tie
