@@ -32,7 +32,7 @@ rows yuv420 h = sampled (subY yuv420) h
 rows yuv422 h = sampled (subY yuv422) h
 rows yuv444 h = sampled (subY yuv444) h
 
--- the number by which document 01 calls a format
+-- the number by which the scope calls a format
 abbrev pub number : Format → ℕ
 number monochrome = 0
 number yuv420 = 1

@@ -1,4 +1,4 @@
--- Limits whose sums f64 holds exactly: of two factors multiplied, document 01's, and the widest there is. Assumes nothing.
+-- Limits whose sums f64 holds exactly: of two factors multiplied, the scope's, and the widest there is. Assumes nothing.
 use mathlib.Core.Path.{_≡_, refl}
 use mathlib.Core.List.{List}
 use Prim.Native.Nat.{ℕ, _+_, _*_, _^_, _≤_}

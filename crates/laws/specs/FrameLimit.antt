@@ -1,4 +1,4 @@
--- Document 01's limit for the law of sums: at most 4,096 × 4,096 places, samples below 2 ^ 12, and sums "in sixteenths with luma averages".
+-- The scope's limit for the law of sums: at most 4,096 × 4,096 places, samples below 2 ^ 12, and sums "in sixteenths with luma averages".
 use Prim.Native.Nat.{_*_, _^_}
 use Rattle.laws.specs.Law.{Limit}
 

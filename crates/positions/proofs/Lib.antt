@@ -1,4 +1,4 @@
--- The neighbours of a sample: by number, as the Rust's loops push them and as the specification's walk visits them; that these are document 01's, and that coefficient i belongs to neighbour i.
+-- The neighbours of a sample: by number, as the Rust's loops push them and as the specification's walk visits them; that these are the scope's, and that coefficient i belongs to neighbour i.
 mod Offsets
 mod Members
 mod Places

@@ -1,4 +1,4 @@
--- Both lists are document 01's neighbours, for every lag (`positions-neighbours`, `walk-neighbours`): by their numbers, which count along the rows. Assumes nothing.
+-- Both lists are the scope's neighbours, for every lag (`positions-neighbours`, `walk-neighbours`): by their numbers, which count along the rows. Assumes nothing.
 use mathlib.Core.Path.{_≡_, sym, ap, _∙_, subst}
 use mathlib.Core.Logic.{_⊎_, inl, inr, ⊎-elim}
 use Prim.Native.Nat.{ℕ, _+_, _*_, _/_, _%_, _≤_, _<_, zero-le}

@@ -1,4 +1,4 @@
--- The Rust's steps are what document 01 says of a profile and of a plane's sigma16, for any number of bins: of samples below 2 ^ depth, at most 2 ^ 24 of them. Assumes nothing.
+-- The Rust's steps are what the scope says of a profile and of a plane's sigma16, for any number of bins: of samples below 2 ^ depth, at most 2 ^ 24 of them. Assumes nothing.
 use mathlib.Core.Path.{_≡_, _∙_}
 use mathlib.Core.List.{List}
 use Prim.Native.Nat.{ℕ, _-_, _^_, _<_}

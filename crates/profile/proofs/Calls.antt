@@ -1,4 +1,4 @@
--- What accepted calls answer: the figures that document 01 words; luma and Cb figures that no Cr sample changes; zeros for the chroma of a monochrome frame. A refused call answers its number and zeros. Assumes nothing.
+-- What accepted calls answer: the figures that the scope words; luma and Cb figures that no Cr sample changes; zeros for the chroma of a monochrome frame. A refused call answers its number and zeros. Assumes nothing.
 use mathlib.Core.Path.{_≡_, refl, sym, ap, _∙_}
 use mathlib.Core.List.{List, [], _∷_}
 use Prim.Native.Nat.{ℕ, _-_, _*_, _^_, _≤_, _<_}

@@ -1,4 +1,4 @@
--- Document 01 on profiles, in its own words: "A bin gives its own sigma16 if its count is at least max(n/100, 64) for luma, max(n/100, 32) for chroma, division rounding down; else the plane's. The answer also carries each bin's count and sum of squares. Bin counts add up to the plane's samples and bin squares to its squares."
+-- The scope on profiles, in its own words: "A bin gives its own sigma16 if its count is at least max(n/100, 64) for luma, max(n/100, 32) for chroma, division rounding down; else the plane's. The answer also carries each bin's count and sum of squares. Bin counts add up to the plane's samples and bin squares to its squares."
 use mathlib.Core.Path.{_≡_}
 use mathlib.Core.List.{List}
 use Prim.Native.Nat.{ℕ, _-_, _/_, _^_, _≤_, _<_, max}

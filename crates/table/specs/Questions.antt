@@ -1,4 +1,4 @@
--- "Sizes 4,096 and 4,097; sample 255 and 256 at 8 bits; register bits 16 and 17." Refusals worked by hand: also empty planes, an unknown depth and format, a length off by one; and of two faults the first in document 01's order.
+-- "Sizes 4,096 and 4,097; sample 255 and 256 at 8 bits; register bits 16 and 17." Refusals worked by hand: also empty planes, an unknown depth and format, a length off by one; and of two faults the first in the scope's order.
 use mathlib.Core.List.{List, [], _∷_, _++_}
 use Prim.Native.Nat.{ℕ, _-_}
 use lib.ListN.{replicate}
