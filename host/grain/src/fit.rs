@@ -1,3 +1,4 @@
+use crate::frame::of_frames;
 use crate::refusal::accepted;
 use crate::{Frame, Refusal, sys};
 
@@ -20,24 +21,7 @@ pub struct ChromaCorr {
 /// # Ok::<(), grain::Refusal>(())
 /// ```
 pub fn fit_chroma_corr(frame: &Frame, denoised: &Frame) -> Result<ChromaCorr, Refusal> {
-    // SAFETY: each pointer is a slice's own, with the slice's length.
-    let found = unsafe {
-        sys::grain_fit_chroma_corr(
-            frame.shape.lent(),
-            frame.y.as_ptr(),
-            frame.y.len(),
-            frame.cb.as_ptr(),
-            frame.cb.len(),
-            frame.cr.as_ptr(),
-            frame.cr.len(),
-            denoised.y.as_ptr(),
-            denoised.y.len(),
-            denoised.cb.as_ptr(),
-            denoised.cb.len(),
-            denoised.cr.as_ptr(),
-            denoised.cr.len(),
-        )
-    };
+    let found = of_frames!(sys::grain_fit_chroma_corr, frame, denoised);
     accepted(found.refusal).map(|()| ChromaCorr {
         cb: found.cb,
         cr: found.cr,
@@ -79,25 +63,7 @@ pub struct ArFit {
 /// # Ok::<(), grain::Refusal>(())
 /// ```
 pub fn fit_ar_lag(frame: &Frame, denoised: &Frame, lag: usize) -> Result<Option<ArFit>, Refusal> {
-    // SAFETY: each pointer is a slice's own, with the slice's length.
-    let found = unsafe {
-        sys::grain_fit_ar_lag(
-            frame.shape.lent(),
-            frame.y.as_ptr(),
-            frame.y.len(),
-            frame.cb.as_ptr(),
-            frame.cb.len(),
-            frame.cr.as_ptr(),
-            frame.cr.len(),
-            denoised.y.as_ptr(),
-            denoised.y.len(),
-            denoised.cb.as_ptr(),
-            denoised.cb.len(),
-            denoised.cr.as_ptr(),
-            denoised.cr.len(),
-            lag,
-        )
-    };
+    let found = of_frames!(sys::grain_fit_ar_lag, frame, denoised, lag);
     accepted(found.refusal)?;
     Ok(found.found.then(|| ArFit {
         lag: lag as u8,

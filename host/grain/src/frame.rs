@@ -113,3 +113,30 @@ impl<'a> Frame<'a> {
         }
     }
 }
+
+/// What a call of the C interface answers of a frame and its denoised copy, and of what else it takes.
+macro_rules! of_frames {
+    ($call:path, $frame:expr, $denoised:expr $(, $more:expr)*) => {{
+        let (frame, denoised): (&$crate::Frame, &$crate::Frame) = ($frame, $denoised);
+        // SAFETY: each pointer is a slice's own, with the slice's length.
+        unsafe {
+            $call(
+                frame.shape.lent(),
+                frame.y.as_ptr(),
+                frame.y.len(),
+                frame.cb.as_ptr(),
+                frame.cb.len(),
+                frame.cr.as_ptr(),
+                frame.cr.len(),
+                denoised.y.as_ptr(),
+                denoised.y.len(),
+                denoised.cb.as_ptr(),
+                denoised.cb.len(),
+                denoised.cr.as_ptr(),
+                denoised.cr.len(),
+                $($more,)*
+            )
+        }
+    }};
+}
+pub(crate) use of_frames;

@@ -1,3 +1,4 @@
+use crate::frame::of_frames;
 use crate::refusal::accepted;
 use crate::{Frame, Refusal, sys};
 
@@ -83,24 +84,7 @@ impl<const BINS: usize> From<sys::Profile<BINS>> for Profile<BINS> {
 /// # Ok::<(), grain::Refusal>(())
 /// ```
 pub fn noise_estimate(frame: &Frame, denoised: &Frame) -> Result<NoiseEstimate, Refusal> {
-    // SAFETY: each pointer is a slice's own, with the slice's length.
-    let found = unsafe {
-        sys::grain_noise_estimate(
-            frame.shape.lent(),
-            frame.y.as_ptr(),
-            frame.y.len(),
-            frame.cb.as_ptr(),
-            frame.cb.len(),
-            frame.cr.as_ptr(),
-            frame.cr.len(),
-            denoised.y.as_ptr(),
-            denoised.y.len(),
-            denoised.cb.as_ptr(),
-            denoised.cb.len(),
-            denoised.cr.as_ptr(),
-            denoised.cr.len(),
-        )
-    };
+    let found = of_frames!(sys::grain_noise_estimate, frame, denoised);
     accepted(found.refusal).map(|()| NoiseEstimate {
         luma: found.luma.into(),
         cb: found.cb.into(),
