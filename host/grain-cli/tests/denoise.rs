@@ -2,7 +2,7 @@
 
 mod common;
 
-use common::{FORMATS, Planes, clip, command, folder, header, said, sample, written};
+use common::{Planes, clip, command, folder, header, said, sample, shapes, written};
 use grain::{Format, Shape};
 use std::fs;
 
@@ -10,49 +10,41 @@ use std::fs;
 #[test]
 fn another_reader_finds_the_denoised_planes() {
     let folder = folder("denoise");
-    for format in FORMATS {
-        for depth in [8, 10, 12] {
-            let shape = Shape {
-                width: 33,
-                height: 17,
-                depth,
-                format,
-            };
-            let frames: Vec<Planes> = (5..8).map(|seed| Planes::random(shape, seed)).collect();
-            fs::write(folder.join("in.y4m"), clip(&frames)).unwrap();
-            assert_eq!(written(&folder, &["denoise", "in.y4m", "out.y4m"]), b"");
-            let denoised: Vec<Planes> = frames.iter().map(Planes::denoised).collect();
-            let bytes = fs::read(folder.join("out.y4m")).unwrap();
-            assert_eq!(
-                bytes,
-                clip(&denoised),
-                "{shape:?}: the header kept, the planes denoised"
-            );
-            assert_eq!(
-                written(&folder, &["denoise", "in.y4m", "-"]),
-                bytes,
-                "standard output"
-            );
-            if format == Format::Monochrome && depth > 8 {
-                continue; // which the crate y4m doesn't read
-            }
-            let mut read = y4m::decode(&bytes[..]).unwrap();
-            assert_eq!(
-                (read.get_width(), read.get_height(), read.get_bit_depth()),
-                (33, 17, depth.into())
-            );
-            for frame in &denoised {
-                let found = read.read_frame().unwrap();
-                let planes = [
-                    found.get_y_plane(),
-                    found.get_u_plane(),
-                    found.get_v_plane(),
-                ]
-                .concat();
-                assert_eq!(planes, frame.bytes());
-            }
-            assert!(matches!(read.read_frame(), Err(y4m::Error::EOF)));
+    for shape in shapes(33, 17) {
+        let frames: Vec<Planes> = (5..8).map(|seed| Planes::random(shape, seed)).collect();
+        fs::write(folder.join("in.y4m"), clip(&frames)).unwrap();
+        assert_eq!(written(&folder, &["denoise", "in.y4m", "out.y4m"]), b"");
+        let denoised: Vec<Planes> = frames.iter().map(Planes::denoised).collect();
+        let bytes = fs::read(folder.join("out.y4m")).unwrap();
+        assert_eq!(
+            bytes,
+            clip(&denoised),
+            "{shape:?}: the header kept, the planes denoised"
+        );
+        assert_eq!(
+            written(&folder, &["denoise", "in.y4m", "-"]),
+            bytes,
+            "standard output"
+        );
+        if shape.format == Format::Monochrome && shape.depth > 8 {
+            continue; // which the crate y4m doesn't read
         }
+        let mut read = y4m::decode(&bytes[..]).unwrap();
+        assert_eq!(
+            (read.get_width(), read.get_height(), read.get_bit_depth()),
+            (33, 17, shape.depth.into())
+        );
+        for frame in &denoised {
+            let found = read.read_frame().unwrap();
+            let planes = [
+                found.get_y_plane(),
+                found.get_u_plane(),
+                found.get_v_plane(),
+            ]
+            .concat();
+            assert_eq!(planes, frame.bytes());
+        }
+        assert!(matches!(read.read_frame(), Err(y4m::Error::EOF)));
     }
 }
 

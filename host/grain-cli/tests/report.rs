@@ -2,7 +2,7 @@
 
 mod common;
 
-use common::{FORMATS, Planes, clip, command, folder, json, run, sample, written};
+use common::{Planes, clip, command, folder, json, run, sample, shapes, written};
 use grain::{Chroma, Format, Frame, Shape};
 use serde_json::{Value, json};
 use std::fs;
@@ -189,33 +189,25 @@ fn plain(mut frame: Value) -> Value {
 #[test]
 fn every_format_and_depth_has_the_library_s_figures() {
     let folder = folder("formats");
-    for format in FORMATS {
-        for depth in [8, 10, 12] {
-            let shape = Shape {
-                width: 37,
-                height: 23,
-                depth,
-                format,
-            };
-            let frames: Vec<Planes> = (0..3).map(|seed| Planes::random(shape, seed)).collect();
-            fs::write(folder.join("clip.y4m"), clip(&frames)).unwrap();
-            let report = json(&folder, &["report", "clip.y4m", "--json"]);
-            let clip = &report["clip"];
+    for shape in shapes(37, 23) {
+        let frames: Vec<Planes> = (0..3).map(|seed| Planes::random(shape, seed)).collect();
+        fs::write(folder.join("clip.y4m"), clip(&frames)).unwrap();
+        let report = json(&folder, &["report", "clip.y4m", "--json"]);
+        let clip = &report["clip"];
+        assert_eq!(
+            (&clip["width"], &clip["height"], &clip["depth"]),
+            (&json!(37), &json!(23), &json!(shape.depth))
+        );
+        let pairs: Vec<_> = frames
+            .iter()
+            .map(|frame| (frame.clone(), frame.denoised()))
+            .collect();
+        for at in 0..3 {
             assert_eq!(
-                (&clip["width"], &clip["height"], &clip["depth"]),
-                (&json!(37), &json!(23), &json!(depth))
+                plain(report["frames"][at].clone()),
+                frame_figures(at, &pairs),
+                "{shape:?}"
             );
-            let pairs: Vec<_> = frames
-                .iter()
-                .map(|frame| (frame.clone(), frame.denoised()))
-                .collect();
-            for at in 0..3 {
-                assert_eq!(
-                    plain(report["frames"][at].clone()),
-                    frame_figures(at, &pairs),
-                    "{shape:?}"
-                );
-            }
         }
     }
 }

@@ -7,12 +7,24 @@ use std::path::{Path, PathBuf};
 use std::process::{Command, Output, Stdio};
 use std::sync::OnceLock;
 
-pub const FORMATS: [Format; 4] = [
-    Format::Monochrome,
-    Format::Yuv420,
-    Format::Yuv422,
-    Format::Yuv444,
-];
+/// Every format at every depth.
+pub fn shapes(width: usize, height: usize) -> impl Iterator<Item = Shape> {
+    [
+        Format::Monochrome,
+        Format::Yuv420,
+        Format::Yuv422,
+        Format::Yuv444,
+    ]
+    .into_iter()
+    .flat_map(move |format| {
+        [8, 10, 12].map(|depth| Shape {
+            width,
+            height,
+            depth,
+            format,
+        })
+    })
+}
 
 /// A fresh folder for one test.
 pub fn folder(name: &str) -> PathBuf {
