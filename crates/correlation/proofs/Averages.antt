@@ -21,16 +21,14 @@ use Rattle.noise.specs.Claim.{Limited, frameSamples, frameTop}
 use Rattle.noise.specs.AverageSums.{squaresAlong, productsAlong, averageSquares, averageProducts, Component}
 use Rattle.noise.proofs.Accepted.{plane-samples}
 use Rattle.noise.proofs.Divided.{divided}
+use Rattle.float.specs.Steps.{sixteen}
 use Rattle.noise.proofs.Products.{frame-held}
 use Rattle.noise.proofs.ChromaSums.{narrow, low, squares-le, products-le}
 use Rattle.noise.proofs.FitWindow.{squares-sum, products-sum}
 use Rattle.correlation.specs.Steps.{squaresF, productsF, corr}
 use Rattle.correlation.specs.Exact.{tapOf}
 
--- 16.0 and 4.0
-abbrev pub sixteen : Float
-sixteen = ofBits binary64 0x4030_0000_0000_0000
-
+-- 4.0
 abbrev pub four : Float
 four = ofBits binary64 0x4010_0000_0000_0000
 

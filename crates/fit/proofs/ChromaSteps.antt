@@ -25,6 +25,7 @@ use Rattle.noise.proofs.LineSums.{size}
 use Rattle.noise.proofs.ChromaSums as chroma
 use Rattle.normal.specs.Normal.{neighbours, factors, tapEntry, tapSquare}
 use Rattle.normal.specs.Calls.{Window, Planes, TapSums}
+use Rattle.float.specs.Steps.{sixteen}
 use Rattle.normal.proofs.Callers.{window, rows, luma-over}
 use Rattle.normal.proofs.Bounds.{square-bound}
 use Rattle.noise.specs.Products.{pair}
@@ -32,10 +33,6 @@ use Rattle.fit.specs.Steps.{zeros, chromaFit}
 use Rattle.fit.specs.Sums.{exactFit, planeSums}
 use Rattle.noise.proofs.Divided.{divided}
 use Rattle.fit.proofs.ExactFit.{chroma-exact}
-
--- 16.0
-abbrev pub sixteen : Float
-sixteen = ofBits binary64 0x4030_0000_0000_0000
 
 any : (b : Bool) → (b || true) ≡ true
 any true = refl

@@ -4,7 +4,8 @@ use borrow.Author.Needs.{needs}
 use lib.Ieee.{Float, binary64, div}
 use mir.Syntax.{w32}
 use mir.ValLaws.{toZ-ofZ}
-use Rattle.correlation.proofs.Averages.{sixteen, four, in-sixteenths, in-quarters}
+use Rattle.float.specs.Steps.{sixteen}
+use Rattle.correlation.proofs.Averages.{four, in-sixteenths, in-quarters}
 use Rattle.correlation.proofs.Taps.{flat, quotient}
 use Rattle.correlation.proofs.tap.Statement.{statement}
 use Rattle.correlation.proofs.tap.Tie as tie
