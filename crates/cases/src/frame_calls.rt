@@ -113,7 +113,7 @@ fn correlation_of(
     dcb: &[u16],
     dcr: &[u16],
 ) -> Answer {
-    let r = correlation::fit_chroma_corr(s, y, cb, cr, dy, dcb, dcr);
+    let r = chroma_correlation::fit_chroma_corr(s, y, cb, cr, dy, dcb, dcr);
     Answer {
         refusal: r.refusal,
         value: mixed(mixed(0, signed(r.cb)), signed(r.cr)),

@@ -30,7 +30,7 @@ pub fn denoise_frame(
 ) -> u32
     ensures { λ r. ⌜ (r, planes (now (dy .exit)) (now (dcb .exit)) (now (dcr .exit))) ≡ frameOutcome s (planes (now (y .entry)) (now (cb .entry)) (now (cr .entry))) (planes (now (dy .entry)) (now (dcb .entry)) (now (dcr .entry))) ⌝ }
 {
-    let answer = frame::denoise_frame_call(s, y, cb, cr, dy.len(), dcb.len(), dcr.len());
+    let answer = frame::denoise_frame_refusal(s, y, cb, cr, dy.len(), dcb.len(), dcr.len());
     if answer != 0 {
         return answer;
     }

@@ -16,22 +16,23 @@ use borrow.Author.Tests.{ne-eqb, le-leb, lt-leb}
 use Rattle.laws.specs.Scaled.{ofScaled}
 use Rattle.laws.specs.Table.{tabulate}
 use Rattle.laws.proofs.Is.{sfits}
+use Rattle.float.specs.Steps.{sixteen}
 use Rattle.noise.specs.Average.{Luma, quarters}
 use Rattle.noise.specs.Grids.{noiseAt}
 use Rattle.noise.specs.AverageSums.{Component}
-use Rattle.noise.proofs.Grids.{columnsFrom}
 use Rattle.noise.specs.declared.rows.Grid.{Grid}
+use Rattle.noise.specs.Products.{pair}
+use Rattle.noise.proofs.Grids.{columnsFrom}
 use Rattle.noise.proofs.LineSums.{size}
 use Rattle.noise.proofs.ChromaSums as chroma
-use Rattle.normal.specs.Normal.{neighbours, factors, tapEntry, tapSquare}
+use Rattle.noise.proofs.Divided.{divided}
+use Rattle.positions.specs.Counts.{neighbours, factors}
+use Rattle.normal.specs.Normal.{tapEntry, tapSquare}
 use Rattle.normal.specs.Calls.{Window, Planes, TapSums}
-use Rattle.float.specs.Steps.{sixteen}
 use Rattle.normal.proofs.Callers.{window, rows, luma-over}
 use Rattle.normal.proofs.Bounds.{square-bound}
-use Rattle.noise.specs.Products.{pair}
 use Rattle.fit.specs.Steps.{zeros, chromaFit}
 use Rattle.fit.specs.Sums.{exactFit, planeSums}
-use Rattle.noise.proofs.Divided.{divided}
 use Rattle.fit.proofs.ExactFit.{chroma-exact}
 
 any : (b : Bool) → (b || true) ≡ true

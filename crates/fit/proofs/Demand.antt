@@ -2,12 +2,13 @@
 use mathlib.Core.Path.{_≡_, refl}
 use mathlib.Core.List.{List}
 use Prim.Native.Nat.{ℕ, _-_}
+use Rattle.laws.specs.Limits.{planeLimit, sampleLimit}
 use Rattle.frame.specs.Calls.{fitRefusal}
 use Rattle.frame.specs.declared.Shape.{Shape}
 use Rattle.frame.proofs.Accepted.{FitCall, fit-call}
 use Rattle.frame.proofs.Facts.{Small}
 use Rattle.noise.specs.Products.{Pair, Factor, average, own, pair}
-use Rattle.noise.specs.Claim.{Limited, frameSamples, frameTop}
+use Rattle.noise.specs.Claim.{Limited}
 use Rattle.noise.specs.Steps.{InFit, tap}
 use Rattle.noise.proofs.Accepted.{accepted-samples, chroma-small}
 use Rattle.noise.proofs.Products.{frame-products-exact}
@@ -18,7 +19,7 @@ use Rattle.fit.specs.Demand.{FitCase, Sums, TapSums}
 use Rattle.fit.proofs.Near.{neighbour-near}
 use Rattle.fit.proofs.EachFit.{lumaOf, planeOf}
 
-case : (plane : Pair) (lag : ℕ) (u v : Factor) → InFit plane lag u → InFit plane lag v → Limited frameSamples frameTop u → Limited frameSamples frameTop v → FitCase plane lag u v
+case : (plane : Pair) (lag : ℕ) (u v : Factor) → InFit plane lag u → InFit plane lag v → Limited planeLimit sampleLimit u → Limited planeLimit sampleLimit v → FitCase plane lag u v
 unfolding fitF
 case plane lag u v a b S T = record {
   positions = fit-positions plane lag u v a b;
@@ -34,7 +35,7 @@ module _ (s : Shape) (y cb cr dy dcb dcr : List ℕ) (lag : ℕ) (passed : fitRe
   size : Small (s .width) (s .height)
   size = facts .frame .shape .size
 
-  sums : (plane : Pair) → Limited frameSamples frameTop (own plane) → Sums plane lag
+  sums : (plane : Pair) → Limited planeLimit sampleLimit (own plane) → Sums plane lag
   sums plane S = record {
     energy = case plane lag (own plane) (own plane) (own-near plane lag) (own-near plane lag) S S;
     noises = λ i j a b. case plane lag (neighbourOf plane lag i) (neighbourOf plane lag j) (neighbour-near plane lag i a) (neighbour-near plane lag j b) S S;
@@ -44,12 +45,12 @@ module _ (s : Shape) (y cb cr dy dcb dcr : List ℕ) (lag : ℕ) (passed : fitRe
   pub luma-sums : Sums (pair y dy (s .width) (s .height)) lag
   luma-sums = sums (pair y dy (s .width) (s .height)) (accepted-samples _ _ _ y dy size (facts .frame .source .y) (facts .frame .copy .y))
 
-  chroma-sums : (c dc : List ℕ) → Limited frameSamples frameTop (own (planeOf s c dc)) → TapSums (lumaOf s y dy) (planeOf s c dc) lag
+  chroma-sums : (c dc : List ℕ) → Limited planeLimit sampleLimit (own (planeOf s c dc)) → TapSums (lumaOf s y dy) (planeOf s c dc) lag
   chroma-sums c dc S =
       let plane = planeOf s c dc in
       let t = average (lumaOf s y dy) in
       let a : InFit plane lag t = tap (lumaOf s y dy) refl refl in
-      let L : Limited frameSamples frameTop t = accepted-samples _ _ _ y dy size (facts .frame .source .y) (facts .frame .copy .y) in
+      let L : Limited planeLimit sampleLimit t = accepted-samples _ _ _ y dy size (facts .frame .source .y) (facts .frame .copy .y) in
       record {
         alone = sums plane S;
         taps = λ i k. case plane lag (neighbourOf plane lag i) t (neighbour-near plane lag i k) a S L;

@@ -14,7 +14,7 @@ use Rattle.frame.specs.declared.Shape.{Shape}
 use Rattle.noise.specs.Average.{Luma}
 use Rattle.noise.specs.Products.{Pair, pair}
 use Rattle.noise.specs.Quarters.{luma}
-use Rattle.normal.specs.Normal.{neighbours}
+use Rattle.positions.specs.Counts.{neighbours}
 use Rattle.fit.specs.Steps.{zeros, coefficientsOf, tooSmall, energyF, lumaFit, chromaFit}
 use Rattle.fit.specs.Answer.{allZero, firstOf, unfit, fitOf, fitAnswer}
 use Rattle.fit.specs.declared.Fit.{Fit}

@@ -19,12 +19,13 @@ use Rattle.laws.proofs.Whole.{square-nonneg}
 use Rattle.noise.specs.Noise.{noise, place}
 use Rattle.noise.specs.Lines.{Plane}
 use Rattle.noise.specs.Grids.{noiseAt}
+use Rattle.noise.specs.Products.{pair}
 use Rattle.noise.proofs.Grids.{columnsFrom}
-use Rattle.normal.specs.Normal.{neighbours, neighbour, windowSum, entry}
+use Rattle.positions.specs.Counts.{neighbours}
+use Rattle.normal.specs.Normal.{neighbour, windowSum, entry}
 use Rattle.normal.specs.Calls.{Window}
 use Rattle.normal.proofs.Callers.{rows, picture}
 use Rattle.normal.proofs.Bounds.{window-ext, sample-last, entry-bound}
-use Rattle.noise.specs.Products.{pair}
 use Rattle.fit.specs.Steps.{energyF}
 use Rattle.fit.specs.Words.{energy}
 use Rattle.fit.proofs.FloatEntries.{energy-sum}

@@ -2,27 +2,28 @@
 use mathlib.Core.Path.{_≡_, refl, sym, ap, _∙_}
 use mathlib.Core.Bool.{Bool, true, false, cond}
 use mathlib.Core.List.{List}
-use Prim.Native.Nat.{ℕ, _+_, _*_, _^_, _≤_, _<_}
+use Prim.Native.Nat.{ℕ, _+_, _*_, _≤_, _<_}
 use native.Mathlib.Nat.{le-trans}
 use native.Mathlib.Omega.{arith}
 use lib.Dec.{ltb, lit≤}
-use lib.IntN.{ℤ, natAbs}
+use lib.IntN.{ℤ}
 use lib.Ieee.{Float, binary64, div, ofInt, ofBits}
-use lib.Ieee.Exact.{HasValue}
 use borrow.Author.Tests.{ltb-true, ltb-false, lt-ltb}
 use Rattle.laws.specs.Scaled.{ofScaled}
 use Rattle.laws.specs.Table.{tabulate}
+use Rattle.laws.specs.Limits.{planeLimit, sampleLimit}
 use Rattle.noise.specs.Average.{Luma, quarters}
 use Rattle.noise.specs.Lines.{at, Plane}
 use Rattle.noise.specs.Grids.{noiseAt}
 use Rattle.noise.specs.Products.{own, average, pair}
-use Rattle.noise.specs.Claim.{Limited, frameSamples, frameTop}
+use Rattle.noise.specs.Claim.{Limited}
 use Rattle.noise.specs.AverageSums.{Component}
 use Rattle.noise.proofs.Grids.{columnsFrom}
 use Rattle.noise.proofs.Accepted.{plane-samples}
 use Rattle.noise.proofs.Divided.{divided}
 use Rattle.noise.proofs.LineSums.{entry as line-entry}
-use Rattle.normal.specs.Normal.{neighbours, factors, entry, tapEntry, tapSquare}
+use Rattle.positions.specs.Counts.{neighbours, factors}
+use Rattle.normal.specs.Normal.{entry, tapEntry, tapSquare}
 use Rattle.normal.specs.Calls.{Window}
 use Rattle.normal.proofs.Squares.{square-entry}
 use Rattle.normal.proofs.Callers.{rows, luma-over}
@@ -67,7 +68,7 @@ module _ (source denoised : List ℕ) (w h lag : ℕ) (P : Plane w h source deno
 
   -- chroma, with its sums with the luma tap
   module _ (l : Luma) (K : Component l source denoised w h) (W : Window w h lag) (some : 0 < h) where
-    luma-limited : Limited frameSamples frameTop (average l)
+    luma-limited : Limited planeLimit sampleLimit (average l)
     luma-limited = plane-samples (l .width) (l .height) (l .source) (l .denoised) (K .narrow) (K .low) (K .of-luma)
 
     pub quarters-are : (i : ℕ) → i < factors lag

@@ -1,24 +1,26 @@
 -- Each f64 sum of a fit is its exact sum, turned into an f64 once: a case of demand 3. Assumes nothing.
 use mathlib.Core.Path.{_≡_, refl, sym, ap, _∙_}
 use mathlib.Core.List.{List}
-use Prim.Native.Nat.{ℕ, _+_, _-_, _*_, _/_, _%_, _≤_, _<_}
+use Prim.Native.Nat.{ℕ, _+_, _-_, _/_, _%_, _≤_, _<_}
 use native.Mathlib.Omega.{arith}
-use lib.IntN.{ℤ, pos, _-ℤ_, _*ℤ_}
+use lib.IntN.{pos, _-ℤ_, _*ℤ_}
 use lib.Ieee.{binary64, ofInt}
 use Rattle.laws.specs.Scaled.{ofScaled}
 use Rattle.laws.proofs.Scaled.{scaled-int}
+use Rattle.laws.specs.Limits.{planeLimit, sampleLimit}
 use Rattle.frame.specs.Size.{chromaWidth, chromaHeight}
 use Rattle.noise.specs.Average.{Luma, quarters}
 use Rattle.noise.specs.Lines.{Plane}
 use Rattle.noise.specs.Grids.{noiseAt}
 use Rattle.noise.specs.Products.{Pair, average, own, whole, pair}
-use Rattle.noise.specs.Claim.{Limited, frameSamples, frameTop}
+use Rattle.noise.specs.Claim.{Limited}
 use Rattle.noise.specs.Steps.{InFit, tap}
 use Rattle.noise.proofs.Grids.{columnsFrom}
 use Rattle.noise.proofs.Accepted.{plane-samples}
 use Rattle.noise.proofs.Products.{frame-held}
 use Rattle.noise.proofs.FitWindow.{fit-sum, in-quarters}
-use Rattle.normal.specs.Normal.{Picture, side, neighbours, factors, neighbour, entry, tapEntry, tapSquare}
+use Rattle.positions.specs.Counts.{side, neighbours, factors}
+use Rattle.normal.specs.Normal.{Picture, neighbour, entry, tapEntry, tapSquare}
 use Rattle.normal.proofs.Bounds.{window-rows, window-ext, window-swap}
 use Rattle.fit.specs.Steps.{neighbourOf, fitF, energyF}
 use Rattle.fit.proofs.Near.{counted, is-counted, counted-near, last-own, counted-noise}
@@ -38,9 +40,9 @@ module _ (source denoised : List ℕ) (w h lag : ℕ) where
       → fitF plane lag (neighbourOf plane lag i) (neighbourOf plane lag j) ≡ ofInt binary64 (entry noises w h lag i j)
   unfolding fitF
   noise-sum P n l i j a b =
-      let S : Limited frameSamples frameTop (own plane) = plane-samples w h source denoised n l P in
+      let S : Limited planeLimit sampleLimit (own plane) = plane-samples w h source denoised n l P in
       (λ t. fitF plane lag (is-counted plane lag i a t) (is-counted plane lag j b t))
-      ∙ fit-sum frameSamples frameTop plane (counted plane lag i) (counted plane lag j) (frame-held (counted plane lag i) (counted plane lag j)) S S lag (counted-near plane lag i a) (counted-near plane lag j b)
+      ∙ fit-sum planeLimit sampleLimit plane (counted plane lag i) (counted plane lag j) (frame-held (counted plane lag i) (counted plane lag j)) S S lag (counted-near plane lag i a) (counted-near plane lag j b)
       ∙ ap (ofScaled 0) (sym (window-rows w h lag (reached i) (reached j)) ∙ window-ext w h lag _ _ _ _ (λ y x. counted-noise source denoised w h lag i y x) (λ y x. counted-noise source denoised w h lag j y x))
       ∙ scaled-int (entry noises w h lag i j)
 
@@ -51,18 +53,18 @@ module _ (source denoised : List ℕ) (w h lag : ℕ) where
 
   -- with the luma average
   module _ (l : Luma) (columns : w ≡ chromaWidth (l .format) (l .width)) (rows : h ≡ chromaHeight (l .format) (l .height))
-      (L : Limited frameSamples frameTop (average l)) where
+      (L : Limited planeLimit sampleLimit (average l)) where
     tapped : InFit plane lag (average l)
     tapped = tap l (sym rows) (sym columns)
 
     pub square-sum : fitF plane lag (average l) (average l) ≡ ofScaled 4 (tapSquare (quarters l) w h lag)
     unfolding fitF
     square-sum =
-        fit-sum frameSamples frameTop plane (average l) (average l) (frame-held (average l) (average l)) L L lag tapped tapped
+        fit-sum planeLimit sampleLimit plane (average l) (average l) (frame-held (average l) (average l)) L L lag tapped tapped
         ∙ ap (ofScaled 4) (sym (window-rows w h lag (quarters l) (quarters l)))
 
     module _ (P : Plane w h source denoised) (n : w ≤ 4096) (s : h ≤ 4096) (i : ℕ) (a : i < factors lag) where
-      S : Limited frameSamples frameTop (own plane)
+      S : Limited planeLimit sampleLimit (own plane)
       S = plane-samples w h source denoised n s P
 
       is-neighbour : (y x : ℕ) → lag ≤ y → lag ≤ x → reached i y x ≡ neighbour noises lag i y x
@@ -72,7 +74,7 @@ module _ (source denoised : List ℕ) (w h lag : ℕ) where
       unfolding fitF
       tap-sum =
           (λ t. fitF plane lag (is-counted plane lag i a t) (average l))
-          ∙ fit-sum frameSamples frameTop plane (counted plane lag i) (average l) (frame-held (counted plane lag i) (average l)) S L lag (counted-near plane lag i a) tapped
+          ∙ fit-sum planeLimit sampleLimit plane (counted plane lag i) (average l) (frame-held (counted plane lag i) (average l)) S L lag (counted-near plane lag i a) tapped
           ∙ in-quarters (λ y x. reached i (lag + y) (lag + x) *ℤ quarters l (lag + y) (lag + x)) (h - lag) (w - lag - lag)
           ∙ ap (ofScaled 2) (sym (window-rows w h lag (reached i) (quarters l)) ∙ window-ext w h lag _ _ _ _ is-neighbour (λ y x c d. refl))
 
@@ -80,7 +82,7 @@ module _ (source denoised : List ℕ) (w h lag : ℕ) where
       unfolding fitF
       tap-first =
           (λ t. fitF plane lag (average l) (is-counted plane lag i a t))
-          ∙ fit-sum frameSamples frameTop plane (average l) (counted plane lag i) (frame-held (average l) (counted plane lag i)) L S lag tapped (counted-near plane lag i a)
+          ∙ fit-sum planeLimit sampleLimit plane (average l) (counted plane lag i) (frame-held (average l) (counted plane lag i)) L S lag tapped (counted-near plane lag i a)
           ∙ in-quarters (λ y x. quarters l (lag + y) (lag + x) *ℤ reached i (lag + y) (lag + x)) (h - lag) (w - lag - lag)
           ∙ ap (ofScaled 2) (sym (window-rows w h lag (quarters l) (reached i)) ∙ window-ext w h lag _ _ _ _ (λ y x c d. refl) is-neighbour ∙ window-swap w h lag (quarters l) (neighbour noises lag i))
 

@@ -15,5 +15,6 @@ pub mod NoChroma
 pub mod OnlyCr
 pub mod Range
 pub mod Unused
+pub mod Filter
 pub mod RustMatrix
 pub mod Demand

@@ -11,8 +11,8 @@ use mir.ValLaws.{toZ-ofZ}
 use borrow.Author.Tests.{eq-eqb, ne-eqb, le-leb, lt-leb}
 use Rattle.laws.specs.Scaled.{plusZero}
 use Rattle.noise.specs.Lines.{at, Plane}
-use Rattle.normal.specs.Normal.{neighbours}
 use Rattle.noise.specs.Products.{pair}
+use Rattle.positions.specs.Counts.{neighbours}
 use Rattle.fit.specs.Steps.{zeros, energyF, lumaFit}
 use Rattle.fit.specs.Sums.{exactFit, planeSums}
 use Rattle.fit.proofs.ExactFit.{energy-exact, luma-exact}

@@ -16,13 +16,14 @@ use Rattle.noise.specs.Grids.{noiseAt}
 use Rattle.noise.specs.Products.{Pair, Factor, noiseFrom, own, whole, pair}
 use Rattle.noise.specs.Steps.{InFit, near}
 use Rattle.noise.proofs.Grids.{columnsFrom}
-use Rattle.normal.specs.Normal.{side, neighbours, factors, neighbour}
-use Rattle.normal.proofs.Sizes.{factors-le, factors-rows}
-use Rattle.normal.proofs.Callers.{picture}
+use Rattle.positions.specs.Counts.{side, neighbours, factors}
 use Rattle.positions.specs.Positions.{positions}
 use Rattle.positions.specs.Neighbours.{sample}
+use Rattle.positions.proofs.Counts.{factors-le, factors-rows}
 use Rattle.positions.proofs.Neighbours.{positions-neighbours}
 use Rattle.positions.proofs.Filter.{position-at}
+use Rattle.normal.specs.Normal.{neighbour}
+use Rattle.normal.proofs.Callers.{picture}
 use Rattle.fit.specs.Steps.{neighbourOf}
 
 -- ---- a - lag, for a from 0 to lag + m

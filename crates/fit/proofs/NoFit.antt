@@ -13,18 +13,18 @@ use lib.Ieee.{le}
 use borrow.Author.Tests.{eqb-true, eqb-false, leb-true, leb-false}
 use Rattle.laws.specs.Scaled.{plusZero}
 use Rattle.laws.proofs.Table.{getD-tabulate}
+use Rattle.float.specs.Steps.{quantAr}
 use Rattle.frame.specs.Calls.{fitRefusal}
 use Rattle.frame.specs.declared.Shape.{Shape}
 use Rattle.frame.proofs.Accepted.{FitCall, fit-call}
-use Rattle.float.specs.Steps.{quantAr}
 use Rattle.noise.specs.Lines.{Plane}
+use Rattle.noise.specs.Products.{pair}
 use Rattle.noise.proofs.Accepted.{plane-of}
-use Rattle.normal.specs.Normal.{neighbours}
+use Rattle.positions.specs.Counts.{neighbours}
+use Rattle.positions.proofs.Counts.{neighbours-le}
 use Rattle.normal.proofs.Callers.{window}
-use Rattle.normal.proofs.Sizes.{neighbours-le}
 use Rattle.solve.specs.Elimination.{value}
 use Rattle.solve.specs.declared.Solved.{Solved}
-use Rattle.noise.specs.Products.{pair}
 use Rattle.fit.specs.Steps.{zeros, quantised, coefficientsOf, energyF, lumaFit}
 use Rattle.fit.specs.Answer.{allZero, firstOf, unfit, fitOf, fitAnswer}
 use Rattle.fit.specs.declared.Fit.{Fit}

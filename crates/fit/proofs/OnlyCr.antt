@@ -5,8 +5,8 @@ use mathlib.Core.List.{List}
 use Prim.Native.Nat.{ℕ}
 use Rattle.frame.specs.Calls.{fitRefusal}
 use Rattle.frame.specs.declared.Shape.{Shape}
-use Rattle.normal.specs.Normal.{neighbours}
 use Rattle.noise.specs.Products.{pair}
+use Rattle.positions.specs.Counts.{neighbours}
 use Rattle.fit.specs.Steps.{lumaFit}
 use Rattle.fit.specs.Answer.{allZero, firstOf, unfit, fitOf, fitAnswer}
 use Rattle.fit.specs.declared.Fit.{Fit}

@@ -6,8 +6,8 @@ use native.Mathlib.Nat.{mul-le-mul}
 use native.Mathlib.Omega.{arith}
 use lib.IntN.{ℤ}
 use lib.ListN.{length}
-use Rattle.normal.specs.Normal.{neighbours, factors}
-use Rattle.normal.proofs.Sizes.{neighbours-le}
+use Rattle.positions.specs.Counts.{neighbours, factors}
+use Rattle.positions.proofs.Counts.{neighbours-le}
 use Rattle.fit.specs.Sums.{Room}
 
 module _ {lag : ℕ} (few : lag ≤ 3) where

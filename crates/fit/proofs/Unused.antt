@@ -11,10 +11,10 @@ use lib.ListN.{getD, getD-replicate}
 use lib.Ieee.{mul, ofBits, toSigned}
 use Rattle.laws.specs.Scaled.{plusZero}
 use Rattle.laws.proofs.Table.{getD-tabulate}
-use Rattle.frame.specs.declared.Shape.{Shape}
 use Rattle.float.specs.Steps.{quantAr}
+use Rattle.frame.specs.declared.Shape.{Shape}
 use Rattle.noise.specs.Products.{Pair, Factor, pair}
-use Rattle.normal.specs.Normal.{neighbours, factors}
+use Rattle.positions.specs.Counts.{neighbours, factors}
 use Rattle.solve.specs.Elimination.{value}
 use Rattle.solve.specs.Answer.{refusalOf}
 use Rattle.solve.specs.declared.Solved.{Solved}

@@ -11,8 +11,8 @@ use Rattle.frame.specs.Questions.{accepted}
 use Rattle.frame.specs.Calls.{fitRefusal}
 use Rattle.frame.specs.declared.Shape.{Shape}
 use Rattle.noise.specs.Quarters.{luma}
-use Rattle.normal.specs.Normal.{neighbours}
 use Rattle.noise.specs.Products.{pair}
+use Rattle.positions.specs.Counts.{neighbours}
 use Rattle.fit.specs.Steps.{lumaFit, chromaFit}
 use Rattle.fit.specs.declared.Fit.{Fit}
 

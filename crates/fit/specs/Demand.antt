@@ -5,7 +5,7 @@ use Rattle.laws.specs.Window.{Place, window}
 use Rattle.noise.specs.Average.{Luma}
 use Rattle.noise.specs.Products.{Pair, Factor, average, own}
 use Rattle.noise.specs.Claim.{Case}
-use Rattle.normal.specs.Normal.{factors}
+use Rattle.positions.specs.Counts.{factors}
 use Rattle.fit.specs.Steps.{neighbourOf, fitF}
 
 -- rows lag to h - 1, columns lag to w - lag - 1, in the Rust's order

@@ -3,3 +3,4 @@ pub mod Answer
 pub mod Sums
 pub mod Words
 pub mod Demand
+pub mod Offsets

@@ -13,7 +13,7 @@ use Rattle.float.specs.Steps.{quantAr}
 use Rattle.noise.specs.Average.{Luma}
 use Rattle.noise.specs.Products.{Pair, Factor, noiseFrom, average, own}
 use Rattle.noise.specs.Steps.{windowF}
-use Rattle.normal.specs.Normal.{neighbours, factors}
+use Rattle.positions.specs.Counts.{neighbours, factors}
 use Rattle.positions.specs.Positions.{positions}
 use Rattle.positions.specs.Neighbours.{sample}
 use Rattle.solve.specs.Elimination.{Row, Matrix, value}

@@ -9,7 +9,8 @@ use lib.ListN.{length}
 use lib.Ieee.{Float, binary64, div, ofInt, ofBits}
 use Rattle.noise.specs.Lines.{at}
 use Rattle.noise.specs.Grids.{noiseAt}
-use Rattle.normal.specs.Normal.{factors, entry, square}
+use Rattle.positions.specs.Counts.{factors}
+use Rattle.normal.specs.Normal.{entry, square}
 use Rattle.solve.specs.Answer.{solvedOf}
 use Rattle.fit.specs.Steps.{matrixOf, rightOf, coefficientsOf}
 

@@ -8,7 +8,8 @@ use Rattle.float.specs.Steps.{quantAr}
 use Rattle.noise.specs.Noise.{noise, place}
 use Rattle.noise.specs.Average.{Luma}
 use Rattle.noise.specs.Products.{Pair}
-use Rattle.normal.specs.Normal.{neighbours, factors, windowSum}
+use Rattle.positions.specs.Counts.{neighbours, factors}
+use Rattle.normal.specs.Normal.{windowSum}
 use Rattle.solve.specs.Elimination.{value}
 use Rattle.solve.specs.declared.Solved.{Solved}
 use Rattle.fit.specs.Steps.{neighbourOf, withTap, solvedFit}

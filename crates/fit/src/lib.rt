@@ -72,7 +72,7 @@ pub fn fit_ar_lag(
 ) -> Fit
     ensures { λ r. ⌜ r ≡ fitAnswer s (now (y .entry)) (now (cb .entry)) (now (cr .entry)) (now (dy .entry)) (now (dcb .entry)) (now (dcr .entry)) lag ⌝ }
 {
-    let refused = frame::fit_call(s, y, cb, cr, dy, dcb, dcr, lag);
+    let refused = frame::fit_refusal(s, y, cb, cr, dy, dcb, dcr, lag);
     if refused != 0 {
         return unfitted(refused);
     }

@@ -10,9 +10,10 @@ use lib.Dec.{leb, eqb}
 use lib.ListN.{length, getD}
 use lib.Pow.{pow-mono}
 use borrow.Author.Tests.{leb-true, eqb-true}
+use Rattle.laws.specs.Limits.{sideLimit}
 use Rattle.frame.specs.declared.Shape.{Shape}
-use Rattle.frame.specs.Questions.{firstNo, sideLimit, small, depthKnown, each, low, allLow}
-use Rattle.frame.specs.Calls.{shapeQuestions}
+use Rattle.frame.specs.Questions.{firstNo, small, depthKnown, each, low, allLow}
+use Rattle.frame.specs.Calls.{shapeNumbers}
 use Rattle.frame.proofs.Refusal.{passed}
 use Rattle.frame.proofs.Samples.{low-below}
 
@@ -54,10 +55,10 @@ pub record Known (s : Shape) : Type 0 where
   pub depth : Depth (s .depth)
   pub format : s .format ≤ 3
 
-pub is-known : (s : Shape) → firstNo (shapeQuestions s) ≡ 0 → Known s
-unfolding shapeQuestions
+pub is-known : (s : Shape) → firstNo (shapeNumbers s) ≡ 0 → Known s
+unfolding shapeNumbers
 is-known s e =
-    let p = passed (shapeQuestions s) refl e in
+    let p = passed (shapeNumbers s) refl e in
     let c = and-eq-true-iff (leb 1 (s .width)) (leb 1 (s .height)) .0 (p .1 .0) in
     record {
       size = is-small (s .width) (s .height) (p .0);

@@ -1,5 +1,6 @@
 pub mod Text
 pub mod Size
+pub mod Viewed
 pub mod Refusal
 pub mod Cause
 pub mod Samples

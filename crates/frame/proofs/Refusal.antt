@@ -33,6 +33,10 @@ module _ (qs : List Question) (h : numbered qs ≡ true) {n : ℕ} (e : n ≡ fi
   pub stopped : (rs : List Question) → (n ≡ 0 → ⊥) → n ≡ firstNo (qs ++ rs)
   stopped rs z = sym (first-no-append qs rs h ∙ rw (← e) (refused n (firstNo rs) n z))
 
+  -- later questions, once these are passed
+  pub continued : (rs : List Question) {m : ℕ} → n ≡ 0 → m ≡ firstNo rs → m ≡ firstNo (qs ++ rs)
+  continued rs z p = p ∙ sym (first-no-append qs rs h ∙ rw (← e) (granted n (firstNo rs) n z))
+
   -- a question more, as `ask` answers it
   pub asked : (q : Question) {r : Bool} {m : ℕ} → m ≡ accepted n (cond r 0 (q .1)) n → r ≡ q .0 → m ≡ firstNo (qs ++ (q ∷ []))
   asked q f p = f ∙ rw (p, e) (sym (first-no-append qs (q ∷ []) h))

@@ -1,14 +1,17 @@
 -- Chroma is no larger than luma, and a plane whose sides are at most a limit has at most its square of samples. Assumes nothing.
 use mathlib.Core.Bool.{Bool, true, false, cond}
 use Prim.Native.Nat.{ℕ, _*_, _≤_}
-use native.Mathlib.Nat.{mul-le-mul, lt-of-le-of-lt}
+use native.Mathlib.Nat.{le-trans, mul-le-mul, lt-of-le-of-lt}
 use native.Mathlib.Omega.{arith}
 use lib.Dec.{eqb, leb, lit<}
 use mir.Syntax.{w64}
 use mir.Val.{Fits}
+use Rattle.laws.specs.Limits.{sideLimit}
 use Rattle.frame.specs.Size.{chromaWidth, chromaHeight}
-use Rattle.frame.specs.Questions.{sideLimit, lumaSamples, chromaSamples}
+use Rattle.frame.specs.Planes.{samplesOf, widthOf, heightOf}
 use Rattle.frame.specs.declared.Shape.{Shape}
+use Rattle.frame.specs.declared.view.Component.{Component}
+use Rattle.frame.specs.declared.view.Component.the-variants.{Y, CbCr}
 
 cond-le : (b : Bool) {x y l : ℕ} → x ≤ l → y ≤ l → cond b x y ≤ l
 cond-le true p q = p
@@ -22,7 +25,7 @@ pub chroma-height-le : (f h : ℕ) → chromaHeight f h ≤ h
 unfolding chromaHeight
 chroma-height-le f h = cond-le (eqb f 0) (omega arith) (cond-le (eqb f 1) (omega arith) (omega arith))
 
-pub chroma-samples-le : (s : Shape) → chromaSamples s ≤ lumaSamples s
+pub chroma-samples-le : (s : Shape) → samplesOf s CbCr ≤ samplesOf s Y
 chroma-samples-le s = mul-le-mul (chroma-width-le (s .format) (s .width)) (chroma-height-le (s .format) (s .height))
 
 -- a plane whose sides are at most a limit
@@ -31,3 +34,12 @@ area-le l p q = mul-le-mul p q
 
 pub area-fits : {w h : ℕ} → w ≤ sideLimit → h ≤ sideLimit → Fits w64 (w * h)
 area-fits p q = record { fits = lt-of-le-of-lt (area-le sideLimit p q) (lit< tt) }
+
+-- the sides of a plane of a frame
+pub width-le : (s : Shape) (component : Component) {l : ℕ} → s .width ≤ l → widthOf s component ≤ l
+width-le s Y h = h
+width-le s CbCr h = le-trans (chroma-width-le (s .format) (s .width)) h
+
+pub height-le : (s : Shape) (component : Component) {l : ℕ} → s .height ≤ l → heightOf s component ≤ l
+height-le s Y h = h
+height-le s CbCr h = le-trans (chroma-height-le (s .format) (s .height)) h

@@ -5,6 +5,7 @@ use Prim.Native.Nat.{ℕ, zero, suc}
 use native.Mathlib.Omega.{arith}
 use borrow.Author.Tests.{leb-true}
 use Rattle.frame.specs.Size.{chromaWidth, chromaHeight}
+use Rattle.frame.specs.Size as scope
 use Rattle.frame.specs.Text.{Format, monochrome, yuv420, yuv422, yuv444, subX, subY, columns, rows, number}
 use Rattle.frame.specs.Questions.{formatKnown}
 
@@ -21,6 +22,21 @@ rows-are monochrome h = refl
 rows-are yuv420 h = refl
 rows-are yuv422 h = omega arith
 rows-are yuv444 h = omega arith
+
+-- what a format halves
+pub sub-x-is : (f : Format) → scope.subX (number f) ≡ subX f
+unfolding subX
+sub-x-is monochrome = refl
+sub-x-is yuv420 = refl
+sub-x-is yuv422 = refl
+sub-x-is yuv444 = refl
+
+pub sub-y-is : (f : Format) → scope.subY (number f) ≡ subY f
+unfolding subY
+sub-y-is monochrome = refl
+sub-y-is yuv420 = refl
+sub-y-is yuv422 = refl
+sub-y-is yuv444 = refl
 
 -- the syntax counts monochrome as 4:2:0
 pub monochrome-counted : (subX monochrome ≡ subX yuv420) × (subY monochrome ≡ subY yuv420)

@@ -2,69 +2,72 @@
 use mathlib.Core.List.{List, [], _∷_, _++_, map}
 use Prim.Native.Nat.{ℕ}
 use lib.ListN.{length}
-use Rattle.frame.specs.Questions.{Question, firstNo, small, present, depthKnown, formatKnown, filled, frameFilled, samplesLow, lagKnown}
-use Rattle.frame.specs.Size.{chromaWidth, chromaHeight}
+use Rattle.frame.specs.Questions.{Question, firstNo, small, present, depthKnown, formatKnown, filled, frameFilled, samplesLow, lagKnown, orderKnown, bitsKnown}
+use Rattle.frame.specs.Planes.{widthOf, heightOf}
 use Rattle.frame.specs.declared.Shape.{Shape}
+use Rattle.frame.specs.declared.view.Component.{Component}
 
 -- ---- about numbers alone; the planes stand by their lengths
 
 -- a lone plane and its destination: no depth, and no samples are asked about
-unfoldable pub planeQuestions : ℕ → ℕ → List ℕ → List Question
-planeQuestions w h planes = small w h ∷ filled w h planes ∷ []
+unfoldable pub planeNumbers : ℕ → ℕ → List ℕ → List Question
+planeNumbers w h planes = small w h ∷ filled w h planes ∷ []
 
--- lone planes with a depth
-unfoldable pub deepPlaneQuestions : ℕ → ℕ → ℕ → List ℕ → List Question
-deepPlaneQuestions w h depth planes = small w h ∷ depthKnown depth ∷ filled w h planes ∷ []
+-- a lone plane and its denoised copy
+unfoldable pub pairNumbers : ℕ → ℕ → ℕ → List ℕ → List Question
+pairNumbers w h depth planes = small w h ∷ depthKnown depth ∷ filled w h planes ∷ []
 
 -- the shape of a frame call
-unfoldable pub shapeQuestions : Shape → List Question
-shapeQuestions s =
+unfoldable pub shapeNumbers : Shape → List Question
+shapeNumbers s =
     small (s .width) (s .height) ∷ present (s .width) (s .height) ∷ depthKnown (s .depth) ∷ formatKnown (s .format) ∷ []
 
--- its planes: of luma and of chroma; of luma alone; of chroma alone
-unfoldable pub frameQuestions : Shape → List ℕ → List ℕ → List Question
-frameQuestions s luma chroma = shapeQuestions s ++ (frameFilled s luma chroma ∷ [])
+-- its planes: of luma and of chroma; of one component
+unfoldable pub frameNumbers : Shape → List ℕ → List ℕ → List Question
+frameNumbers s luma chroma = shapeNumbers s ++ (frameFilled s luma chroma ∷ [])
 
-unfoldable pub lumaQuestions : Shape → List ℕ → List Question
-lumaQuestions s planes = shapeQuestions s ++ (filled (s .width) (s .height) planes ∷ [])
+unfoldable pub gateNumbers : Shape → Component → List ℕ → List Question
+gateNumbers s component planes = shapeNumbers s ++ (filled (widthOf s component) (heightOf s component) planes ∷ [])
 
-unfoldable pub chromaQuestions : Shape → List ℕ → List Question
-chromaQuestions s planes =
-    shapeQuestions s ++ (filled (chromaWidth (s .format) (s .width)) (chromaHeight (s .format) (s .height)) planes ∷ [])
+-- a lag, an order, a number of bits
+abbrev pub lagRefusal : ℕ → ℕ
+lagRefusal lag = firstNo (lagKnown lag ∷ [])
+
+abbrev pub orderRefusal : ℕ → ℕ
+orderRefusal order = firstNo (orderKnown order ∷ [])
+
+abbrev pub bitsRefusal : ℕ → ℕ
+bitsRefusal bits = firstNo (bitsKnown bits ∷ [])
 
 -- ---- the calls; a plane is the list of its samples, a destination its length
 
 -- denoise of a plane
 unfoldable pub planeRefusal : ℕ → ℕ → ℕ → ℕ → ℕ
-planeRefusal w h src dst = firstNo (planeQuestions w h (src ∷ dst ∷ []))
+planeRefusal w h src dst = firstNo (planeNumbers w h (src ∷ dst ∷ []))
 
 -- sigma16 and row correlation of a plane and its denoised copy
-unfoldable pub deepPlaneRefusal : ℕ → ℕ → ℕ → List ℕ → List ℕ → ℕ
-deepPlaneRefusal w h depth a b =
-    firstNo (deepPlaneQuestions w h depth (map length (a ∷ b ∷ [])) ++ (samplesLow depth (a ∷ b ∷ []) ∷ []))
+unfoldable pub pairRefusal : ℕ → ℕ → ℕ → List ℕ → List ℕ → ℕ
+pairRefusal w h depth a b =
+    firstNo (pairNumbers w h depth (map length (a ∷ b ∷ [])) ++ (samplesLow depth (a ∷ b ∷ []) ∷ []))
 
 -- a frame and its denoised copy: profile and chroma correlation; a fit is asked about its lag as well
 unfoldable pub copyQuestions : Shape → List ℕ → List ℕ → List ℕ → List ℕ → List ℕ → List ℕ → List Question
-copyQuestions s y cb cr y′ cb′ cr′ =
-    frameQuestions s (map length (y ∷ y′ ∷ [])) (map length (cb ∷ cr ∷ cb′ ∷ cr′ ∷ [])) ++
-    (samplesLow (s .depth) (y ∷ cb ∷ cr ∷ y′ ∷ cb′ ∷ cr′ ∷ []) ∷ [])
+copyQuestions s y cb cr dy dcb dcr =
+    frameNumbers s (map length (y ∷ dy ∷ [])) (map length (cb ∷ cr ∷ dcb ∷ dcr ∷ [])) ++
+    (samplesLow (s .depth) (y ∷ cb ∷ cr ∷ dy ∷ dcb ∷ dcr ∷ []) ∷ [])
 
 unfoldable pub frameRefusal : Shape → List ℕ → List ℕ → List ℕ → List ℕ → List ℕ → List ℕ → ℕ
-frameRefusal s y cb cr y′ cb′ cr′ = firstNo (copyQuestions s y cb cr y′ cb′ cr′)
+frameRefusal s y cb cr dy dcb dcr = firstNo (copyQuestions s y cb cr dy dcb dcr)
 
 unfoldable pub fitRefusal : Shape → List ℕ → List ℕ → List ℕ → List ℕ → List ℕ → List ℕ → ℕ → ℕ
-fitRefusal s y cb cr y′ cb′ cr′ lag = firstNo (copyQuestions s y cb cr y′ cb′ cr′ ++ (lagKnown lag ∷ []))
+fitRefusal s y cb cr dy dcb dcr lag = firstNo (copyQuestions s y cb cr dy dcb dcr ++ (lagKnown lag ∷ []))
 
 -- a gate: one component of two frames and of their denoised copies
-unfoldable pub lumaGateRefusal : Shape → List ℕ → List ℕ → List ℕ → List ℕ → ℕ
-lumaGateRefusal s a b c d =
-    firstNo (lumaQuestions s (map length (a ∷ b ∷ c ∷ d ∷ [])) ++ (samplesLow (s .depth) (a ∷ b ∷ c ∷ d ∷ []) ∷ []))
-
-unfoldable pub chromaGateRefusal : Shape → List ℕ → List ℕ → List ℕ → List ℕ → ℕ
-chromaGateRefusal s a b c d =
-    firstNo (chromaQuestions s (map length (a ∷ b ∷ c ∷ d ∷ [])) ++ (samplesLow (s .depth) (a ∷ b ∷ c ∷ d ∷ []) ∷ []))
+unfoldable pub gateRefusal : Shape → Component → List ℕ → List ℕ → List ℕ → List ℕ → ℕ
+gateRefusal s component a b c d =
+    firstNo (gateNumbers s component (map length (a ∷ b ∷ c ∷ d ∷ [])) ++ (samplesLow (s .depth) (a ∷ b ∷ c ∷ d ∷ []) ∷ []))
 
 -- denoise of a frame: a destination's old contents are neither source nor denoised samples
 unfoldable pub denoiseFrameRefusal : Shape → List ℕ → List ℕ → List ℕ → ℕ → ℕ → ℕ → ℕ
-denoiseFrameRefusal s y cb cr dy dcb dcr =
-    firstNo (frameQuestions s (length y ∷ dy ∷ []) (length cb ∷ length cr ∷ dcb ∷ dcr ∷ []) ++ (samplesLow (s .depth) (y ∷ cb ∷ cr ∷ []) ∷ []))
+denoiseFrameRefusal s y cb cr toY toCb toCr =
+    firstNo (frameNumbers s (length y ∷ toY ∷ []) (length cb ∷ length cr ∷ toCb ∷ toCr ∷ []) ++ (samplesLow (s .depth) (y ∷ cb ∷ cr ∷ []) ∷ []))

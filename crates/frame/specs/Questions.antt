@@ -3,8 +3,10 @@ use mathlib.Core.Bool.{Bool, true, cond, _&&_, _||_}
 use mathlib.Core.List.{List, [], _∷_}
 use Prim.Native.Nat.{ℕ, zero, suc, _*_, _^_}
 use lib.Dec.{leb, ltb, eqb}
-use Rattle.frame.specs.Size.{chromaWidth, chromaHeight}
+use Rattle.laws.specs.Limits.{sideLimit}
+use Rattle.frame.specs.Planes.{samplesOf}
 use Rattle.frame.specs.declared.Shape.{Shape}
+use Rattle.frame.specs.declared.view.Component.the-variants.{Y, CbCr}
 
 abbrev pub Question : Type 0
 Question = Bool × ℕ
@@ -35,10 +37,6 @@ allLow depth (p ∷ ps) = low depth p && allLow depth ps
 
 -- ---- the questions
 
--- the largest width and the largest height
-abbrev pub sideLimit : ℕ
-sideLimit = 4096
-
 -- Are width and height each at most 4,096? No: 1.
 abbrev pub small : ℕ → ℕ → Question
 small w h = (leb w sideLimit && leb h sideLimit, 1)
@@ -59,14 +57,8 @@ formatKnown format = (leb format 3, 4)
 abbrev pub filled : ℕ → ℕ → List ℕ → Question
 filled w h planes = (each (w * h) planes, 5)
 
-abbrev pub lumaSamples : Shape → ℕ
-lumaSamples s = s .width * s .height
-
-abbrev pub chromaSamples : Shape → ℕ
-chromaSamples s = chromaWidth (s .format) (s .width) * chromaHeight (s .format) (s .height)
-
 abbrev pub frameFilled : Shape → List ℕ → List ℕ → Question
-frameFilled s luma chroma = (each (lumaSamples s) luma && each (chromaSamples s) chroma, 5)
+frameFilled s luma chroma = (each (samplesOf s Y) luma && each (samplesOf s CbCr) chroma, 5)
 
 -- In a call with a depth, is every source and denoised sample below 2^depth? No: 6.
 abbrev pub samplesLow : ℕ → List (List ℕ) → Question

@@ -1,5 +1,6 @@
 -- Chroma size by the AV1 specification: (w + subX) >> subX columns and (h + subY) >> subY rows; monochrome has no chroma, and the syntax counts it as subX = subY = 1.
-use Prim.Native.Nat.{ℕ, _+_, _/_, _^_}
+use Prim.Native.Nat.{ℕ}
+use Rattle.frame.specs.Size.{sampled}
 
 pub data Format : Type 0 where
   monochrome yuv420 yuv422 yuv444 : Format
@@ -15,10 +16,6 @@ subY monochrome = 1
 subY yuv420 = 1
 subY yuv422 = 0
 subY yuv444 = 0
-
--- (x + sub) >> sub
-abbrev pub sampled : ℕ → ℕ → ℕ
-sampled sub x = (x + sub) / 2 ^ sub
 
 unfoldable pub columns : Format → ℕ → ℕ
 columns monochrome w = 0

@@ -1,26 +1,31 @@
-// The shape of a frame, and the questions put to a call.
+// The shape of a frame, how its planes are looked at, and the questions put to a call.
+mod view; // how a plane is looked at
 mod questions; // each question, a yes or no
-mod refusals; // the questions about numbers alone
-mod calls; // all questions of a call
+mod numbers; // the questions about numbers alone
+mod refusals; // all questions of a call
 
-pub use calls::chroma_gate_call;
-pub use calls::deep_plane_call;
-pub use calls::denoise_frame_call;
-pub use calls::fit_call;
-pub use calls::frame_call;
-pub use calls::luma_gate_call;
+pub use numbers::bits_refusal;
+pub use numbers::frame_numbers;
+pub use numbers::lag_refusal;
+pub use numbers::order_refusal;
+pub use numbers::pair_numbers;
+pub use numbers::plane_refusal;
 pub use questions::samples_low;
-pub use refusals::chroma_gate_refusal;
-pub use refusals::deep_plane_refusal;
+pub use refusals::denoise_frame_refusal;
+pub use refusals::fit_refusal;
 pub use refusals::frame_refusal;
-pub use refusals::luma_gate_refusal;
-pub use refusals::plane_refusal;
-pub use refusals::shape_refusal;
+pub use refusals::gate_refusal;
+pub use refusals::pair_refusal;
+pub use view::Component;
+pub use view::View;
 ghost use mathlib.Core.Path.{_≡_};
 ghost use mathlib.Core.Bool.{cond};
-ghost use Prim.Native.Nat.{_+_, _/_, _≤_};
-ghost use Rattle.frame.specs.Size.{chromaWidth, chromaHeight};
-ghost use Rattle.frame.specs.Questions.{lumaSamples, chromaSamples, sideLimit};
+ghost use Prim.Native.Nat.{_+_, _/_};
+ghost use Rattle.frame.specs.Size.{chromaWidth, chromaHeight, subX, subY};
+ghost use Rattle.frame.specs.Planes.{widthOf, heightOf, viewOf};
+
+// The largest width and the largest height.
+pub const SIDE_LIMIT: usize = 4096;
 
 // A frame's size in luma samples, its depth in bits, and its format: 0 monochrome, 1 4:2:0, 2 4:2:2, 3 4:4:4.
 #[repr(C)]
@@ -66,19 +71,52 @@ impl Shape {
         chroma_side(self.format == 0, self.format == 1, self.height)
     }
 
-    // w × h
-    pub fn luma_samples(self) -> usize
-        requires { ⌜ (self .width ≤ sideLimit) × (self .height ≤ sideLimit) ⌝ }
-        ensures { λ r. ⌜ r ≡ lumaSamples self ⌝ }
+    // 1 where the format halves the columns, else 0.
+    pub fn sub_x(self) -> usize
+        ensures { λ r. ⌜ r ≡ subX (self .format) ⌝ }
     {
-        self.width * self.height
+        if self.format <= 2 { 1 } else { 0 }
     }
 
-    // chroma width × chroma height
-    pub fn chroma_samples(self) -> usize
-        requires { ⌜ (self .width ≤ sideLimit) × (self .height ≤ sideLimit) ⌝ }
-        ensures { λ r. ⌜ r ≡ chromaSamples self ⌝ }
+    // 1 where the format halves the rows, else 0.
+    pub fn sub_y(self) -> usize
+        ensures { λ r. ⌜ r ≡ subY (self .format) ⌝ }
     {
-        self.chroma_width() * self.chroma_height()
+        if self.format <= 1 { 1 } else { 0 }
+    }
+
+    // The columns of a plane.
+    pub fn width_of(self, component: Component) -> usize
+        ensures { λ r. ⌜ r ≡ widthOf self component ⌝ }
+    {
+        match component {
+            Component::Y => self.width,
+            Component::CbCr => self.chroma_width(),
+        }
+    }
+
+    // The rows of a plane.
+    pub fn height_of(self, component: Component) -> usize
+        ensures { λ r. ⌜ r ≡ heightOf self component ⌝ }
+    {
+        match component {
+            Component::Y => self.height,
+            Component::CbCr => self.chroma_height(),
+        }
+    }
+
+    // What a call sees of a plane: all of it.
+    pub fn view(self, component: Component) -> View
+        ensures { λ r. ⌜ r ≡ viewOf self component ⌝ }
+    {
+        let width = self.width_of(component);
+        let height = self.height_of(component);
+        View {
+            start: 0,
+            step: width,
+            stride: 1,
+            width,
+            height,
+        }
     }
 }

@@ -1,11 +1,9 @@
 // The questions put to a call, each a plain yes or no.
+use crate::SIDE_LIMIT;
 ghost use mathlib.Core.Path.{_≡_};
 ghost use mathlib.Core.Bool.{cond};
 ghost use mathlib.Core.List.{[], _∷_};
 ghost use Rattle.frame.specs.Questions.{accepted, small, present, depthKnown, formatKnown, each, low, allLow};
-
-// The largest width and the largest height.
-const SIDE_LIMIT: usize = 4096;
 
 // One question more: the number of an earlier refusal, else this question's where the answer is no, else 0.
 pub fn ask(earlier: u32, answer: bool, number: u32) -> u32
@@ -20,7 +18,7 @@ pub fn ask(earlier: u32, answer: bool, number: u32) -> u32
     number
 }
 
-// w ≤ 4096 and h ≤ 4096
+// w and h are within the limit
 pub fn is_small(w: usize, h: usize) -> bool
     ensures { λ r. ⌜ r ≡ small w h .0 ⌝ }
 {

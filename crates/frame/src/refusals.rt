@@ -1,84 +1,107 @@
-// The questions about numbers alone: each function answers the number of the first that fails, or 0.
+// All questions of a call: each function answers the number of the first that fails, or 0. Samples are looked at only where the numbers pass.
+use crate::Component;
 use crate::Shape;
+use crate::numbers;
 use crate::questions;
 use crate::questions::ask;
 ghost use mathlib.Core.Path.{_≡_};
-ghost use mathlib.Core.List.{[], _∷_};
-ghost use Rattle.frame.specs.Questions.{firstNo};
-ghost use Rattle.frame.specs.Calls.{shapeQuestions, deepPlaneQuestions, frameQuestions, lumaQuestions, chromaQuestions, planeRefusal};
+ghost use Rattle.frame.specs.Calls.{pairRefusal, frameRefusal, fitRefusal, gateRefusal, denoiseFrameRefusal};
 
-// Questions 1 and 5, of a lone plane and its destination.
-pub fn plane_refusal(width: usize, height: usize, src: usize, dst: usize) -> u32
-    ensures { λ r. ⌜ r ≡ planeRefusal width height src dst ⌝ }
+// Questions 1, 3, 5 and 6, of a lone plane and its denoised copy.
+pub fn pair_refusal(src: &[u16], den: &[u16], width: usize, height: usize, depth: u8) -> u32
+    ensures { λ r. ⌜ r ≡ pairRefusal width height depth (now (src .entry)) (now (den .entry)) ⌝ }
 {
-    let n = ask(0, questions::is_small(width, height), 1);
+    let n = numbers::pair_numbers(width, height, depth, src.len(), den.len());
     if n != 0 {
         return n;
     }
-    ask(n, questions::both_are(width * height, src, dst), 5)
+    ask(n, questions::both_low(depth, src, den), 6)
 }
 
-// Questions 1, 3 and 5, of lone planes with a depth.
-pub fn deep_plane_refusal(width: usize, height: usize, depth: u8, a: usize, b: usize) -> u32
-    ensures { λ r. ⌜ r ≡ firstNo (deepPlaneQuestions width height depth (a ∷ b ∷ [])) ⌝ }
-{
-    let n = ask(0, questions::is_small(width, height), 1);
-    let n = ask(n, questions::depth_known(depth), 3);
-    if n != 0 {
-        return n;
-    }
-    ask(n, questions::both_are(width * height, a, b), 5)
-}
-
-// Questions 1 to 4, of a frame's shape.
-pub fn shape_refusal(s: Shape) -> u32
-    ensures { λ r. ⌜ r ≡ firstNo (shapeQuestions s) ⌝ }
-{
-    let n = ask(0, questions::is_small(s.width, s.height), 1);
-    let n = ask(n, questions::is_present(s.width, s.height), 2);
-    let n = ask(n, questions::depth_known(s.depth), 3);
-    ask(n, questions::format_known(s.format), 4)
-}
-
-// Questions 1 to 5, of a frame and a second one: their luma and chroma planes.
+// Questions 1 to 6, of a frame and its denoised copy.
 pub fn frame_refusal(
     s: Shape,
-    y: usize,
-    cb: usize,
-    cr: usize,
-    y2: usize,
-    cb2: usize,
-    cr2: usize,
+    y: &[u16],
+    cb: &[u16],
+    cr: &[u16],
+    dy: &[u16],
+    dcb: &[u16],
+    dcr: &[u16],
 ) -> u32
-    ensures { λ r. ⌜ r ≡ firstNo (frameQuestions s (y ∷ y2 ∷ []) (cb ∷ cr ∷ cb2 ∷ cr2 ∷ [])) ⌝ }
+    ensures { λ r. ⌜ r ≡ frameRefusal s (now (y .entry)) (now (cb .entry)) (now (cr .entry)) (now (dy .entry)) (now (dcb .entry)) (now (dcr .entry)) ⌝ }
 {
-    let n = shape_refusal(s);
+    let n = numbers::frame_numbers(
+        s,
+        y.len(),
+        cb.len(),
+        cr.len(),
+        dy.len(),
+        dcb.len(),
+        dcr.len(),
+    );
     if n != 0 {
         return n;
     }
-    let luma = questions::both_are(s.luma_samples(), y, y2);
-    let chroma = questions::four_are(s.chroma_samples(), cb, cr, cb2, cr2);
-    ask(n, luma & chroma, 5)
+    ask(
+        n,
+        questions::frame_low(s.depth, y, cb, cr) & questions::frame_low(s.depth, dy, dcb, dcr),
+        6,
+    )
 }
 
-// Questions 1 to 5, of four luma planes.
-pub fn luma_gate_refusal(s: Shape, a: usize, b: usize, c: usize, d: usize) -> u32
-    ensures { λ r. ⌜ r ≡ firstNo (lumaQuestions s (a ∷ b ∷ c ∷ d ∷ [])) ⌝ }
+// Questions 1 to 7, of a fit: a frame, its denoised copy and a lag.
+pub fn fit_refusal(
+    s: Shape,
+    y: &[u16],
+    cb: &[u16],
+    cr: &[u16],
+    dy: &[u16],
+    dcb: &[u16],
+    dcr: &[u16],
+    lag: usize,
+) -> u32
+    ensures { λ r. ⌜ r ≡ fitRefusal s (now (y .entry)) (now (cb .entry)) (now (cr .entry)) (now (dy .entry)) (now (dcb .entry)) (now (dcr .entry)) lag ⌝ }
 {
-    let n = shape_refusal(s);
+    let n = frame_refusal(s, y, cb, cr, dy, dcb, dcr);
     if n != 0 {
         return n;
     }
-    ask(n, questions::four_are(s.luma_samples(), a, b, c, d), 5)
+    numbers::lag_refusal(lag)
 }
 
-// Questions 1 to 5, of four chroma planes of one component.
-pub fn chroma_gate_refusal(s: Shape, a: usize, b: usize, c: usize, d: usize) -> u32
-    ensures { λ r. ⌜ r ≡ firstNo (chromaQuestions s (a ∷ b ∷ c ∷ d ∷ [])) ⌝ }
+// Questions 1 to 6, of four planes of one component.
+pub fn gate_refusal(
+    s: Shape,
+    component: Component,
+    a: &[u16],
+    b: &[u16],
+    c: &[u16],
+    d: &[u16],
+) -> u32
+    ensures { λ r. ⌜ r ≡ gateRefusal s component (now (a .entry)) (now (b .entry)) (now (c .entry)) (now (d .entry)) ⌝ }
 {
-    let n = shape_refusal(s);
+    let n = numbers::gate_numbers(s, component, a.len(), b.len(), c.len(), d.len());
     if n != 0 {
         return n;
     }
-    ask(n, questions::four_are(s.chroma_samples(), a, b, c, d), 5)
+    ask(n, questions::four_low(s.depth, a, b, c, d), 6)
+}
+
+// Questions 1 to 6, of a frame and the lengths of its destinations.
+pub fn denoise_frame_refusal(
+    s: Shape,
+    y: &[u16],
+    cb: &[u16],
+    cr: &[u16],
+    outy: usize,
+    outcb: usize,
+    outcr: usize,
+) -> u32
+    ensures { λ r. ⌜ r ≡ denoiseFrameRefusal s (now (y .entry)) (now (cb .entry)) (now (cr .entry)) outy outcb outcr ⌝ }
+{
+    let n = numbers::frame_numbers(s, y.len(), cb.len(), cr.len(), outy, outcb, outcr);
+    if n != 0 {
+        return n;
+    }
+    ask(n, questions::frame_low(s.depth, y, cb, cr), 6)
 }

@@ -5,14 +5,15 @@ use Prim.Native.Nat.{ℕ, zero, suc, _-_}
 use mathlib.Core.Bool.{Bool, false}
 use lib.Ieee.{Float}
 use Rattle.frame.specs.Size.{chromaWidth, chromaHeight}
-use Rattle.frame.specs.Calls.{deepPlaneRefusal, lumaGateRefusal, chromaGateRefusal}
+use Rattle.frame.specs.Calls.{pairRefusal, gateRefusal}
 use Rattle.frame.specs.declared.Shape.{Shape}
+use Rattle.frame.specs.declared.view.Component.the-variants.{Y, CbCr}
 use Rattle.profile.specs.Steps.{planeSigma16}
 use Rattle.noise.specs.Products.{pair}
 use Rattle.gate.specs.RowCorrelation.{rowCorrelation}
 use Rattle.gate.specs.Answers.{rho, rhoAnswer, gate, lumaAnswer, chromaAnswer}
 use Rattle.gate.specs.Tests.{lumaFinding, chromaFinding, isPassed}
-use Rattle.gate.specs.declared.tests.Finding.{Finding}
+use Rattle.gate.specs.declared.finding.Finding.{Finding}
 use Rattle.gate.specs.declared.Gate.{Gate}
 use Rattle.gate.specs.declared.Rho.the-variants.{Refused, Value}
 
@@ -20,7 +21,7 @@ rho-refused : (n : ℕ) (x : Float) → (n ≡ 0 → ⊥) → Refused n ≡ rho 
 rho-refused zero x h = absurd (h refl)
 rho-refused (suc n) x h = refl
 
-module _ (s d : List ℕ) (w h lag depth n : ℕ) (asked : n ≡ deepPlaneRefusal w h depth s d) where
+module _ (s d : List ℕ) (w h lag depth n : ℕ) (asked : n ≡ pairRefusal w h depth s d) where
   pub refused : (n ≡ 0 → ⊥) → Refused n ≡ rhoAnswer s d w h lag depth
   unfolding rhoAnswer
   refused z = rho-refused n _ z ∙ ap (λ (m : ℕ). rho m (rowCorrelation (pair s d w h) lag)) asked
@@ -36,7 +37,7 @@ gate-refused : (n : ℕ) (b : Bool) → (n ≡ 0 → ⊥) → made n false ≡ g
 gate-refused zero b h = absurd (h refl)
 gate-refused (suc n) b h = refl
 
-module _ (s : Shape) (y₀ d₀ y₁ d₁ : List ℕ) (n : ℕ) (asked : n ≡ lumaGateRefusal s y₀ d₀ y₁ d₁) where
+module _ (s : Shape) (y₀ d₀ y₁ d₁ : List ℕ) (n : ℕ) (asked : n ≡ gateRefusal s Y y₀ d₀ y₁ d₁) where
   pub luma-refused : (n ≡ 0 → ⊥) → made n false ≡ lumaAnswer s y₀ d₀ y₁ d₁
   unfolding lumaAnswer
   luma-refused z = rw (← asked) (gate-refused n _ z)
@@ -46,7 +47,7 @@ module _ (s : Shape) (y₀ d₀ y₁ d₁ : List ℕ) (n : ℕ) (asked : n ≡ l
   unfolding lumaAnswer
   luma-answered f b z found e = rw (← asked, z, ← found, e)
 
-module _ (s : Shape) (c₀ d₀ c₁ d₁ : List ℕ) (sigma16 n : ℕ) (asked : n ≡ chromaGateRefusal s c₀ d₀ c₁ d₁) where
+module _ (s : Shape) (c₀ d₀ c₁ d₁ : List ℕ) (sigma16 n : ℕ) (asked : n ≡ gateRefusal s CbCr c₀ d₀ c₁ d₁) where
   pub chroma-refused : (n ≡ 0 → ⊥) → made n false ≡ chromaAnswer s c₀ d₀ c₁ d₁ sigma16
   unfolding chromaAnswer
   chroma-refused z = rw (← asked) (gate-refused n _ z)

@@ -3,12 +3,14 @@ use mathlib.Core.Path.{_≡_, refl, _∙_}
 use mathlib.Core.List.{List}
 use Prim.Native.Nat.{ℕ, _-_}
 use native.Mathlib.Omega.{arith}
+use Rattle.laws.specs.Limits.{planeLimit, sampleLimit}
 use Rattle.frame.specs.Size.{chromaWidth, chromaHeight}
-use Rattle.frame.specs.Calls.{deepPlaneRefusal, lumaGateRefusal, chromaGateRefusal}
+use Rattle.frame.specs.Calls.{pairRefusal, gateRefusal}
 use Rattle.frame.specs.declared.Shape.{Shape}
-use Rattle.frame.proofs.Accepted.{deep-plane-call, luma-gate-call, chroma-gate-call}
+use Rattle.frame.proofs.Accepted.{pair-call, gate-call}
+use Rattle.frame.specs.declared.view.Component.the-variants.{Y, CbCr}
 use Rattle.noise.specs.Products.{Pair, pair, own, onward}
-use Rattle.noise.specs.Claim.{Limited, frameSamples, frameTop, Case}
+use Rattle.noise.specs.Claim.{Limited, Case}
 use Rattle.noise.specs.Steps.{windowF, dotF}
 use Rattle.noise.proofs.Accepted.{accepted-samples, chroma-small}
 use Rattle.noise.proofs.Steps.{frame-case, onward-exists, dot-window, lag-window}
@@ -17,7 +19,7 @@ use Rattle.gate.specs.Demand.{everywhere, before, RowSums, PairSums, Lum
 
 -- samples within the frame's limit
 abbrev Low : Pair → Type 0
-Low p = Limited frameSamples frameTop (own p)
+Low p = Limited planeLimit sampleLimit (own p)
 
 -- a noise and, of a plane of the same size, the one `lag` columns on
 lagged-case : (p q : Pair) (lag : ℕ) → q .width ≡ p .width → q .height ≡ p .height → Low p → Low q → Case (own p) (onward q lag) (before p lag) (windowF (own p) (onward q lag) 0 (p .height) 0 (p .width - lag))
@@ -53,18 +55,18 @@ pair-sums p q wide high S T = record {
 }
 
 -- ---- of accepted calls
-pub lag-h-rho-sums : (a b : List ℕ) (w h lag depth : ℕ) → deepPlaneRefusal w h depth a b ≡ 0 → RowSums (pair a b w h) lag
+pub lag-h-rho-sums : (a b : List ℕ) (w h lag depth : ℕ) → pairRefusal w h depth a b ≡ 0 → RowSums (pair a b w h) lag
 lag-h-rho-sums a b w h lag depth e =
-    let k = deep-plane-call w h depth a b e in
+    let k = pair-call w h depth a b e in
     row-sums (pair a b w h) lag (accepted-samples w h depth a b (k .size) (k .first) (k .second))
 
 module _ (s : Shape) (a b c d : List ℕ) where
   abbrev lumaPlane : List ℕ → List ℕ → Pair
   lumaPlane x y = pair x y (s .width) (s .height)
 
-  pub film-grain-probe-sums : lumaGateRefusal s a b c d ≡ 0 → LumaSums (lumaPlane a b) (lumaPlane c d)
+  pub film-grain-probe-sums : gateRefusal s Y a b c d ≡ 0 → LumaSums (lumaPlane a b) (lumaPlane c d)
   film-grain-probe-sums e =
-      let k = luma-gate-call s a b c d e in
+      let k = gate-call s Y a b c d e in
       let S : Low (lumaPlane a b) = accepted-samples _ _ _ a b (k .shape .size) (k .first) (k .second) in
       let T : Low (lumaPlane c d) = accepted-samples _ _ _ c d (k .shape .size) (k .third) (k .fourth) in
       record { planes = pair-sums (lumaPlane a b) (lumaPlane c d) refl refl S T; row = lagged-case (lumaPlane a b) (lumaPlane a b) 1 refl refl S S }
@@ -72,9 +74,9 @@ module _ (s : Shape) (a b c d : List ℕ) where
   abbrev chromaPlane : List ℕ → List ℕ → Pair
   chromaPlane x y = pair x y (chromaWidth (s .format) (s .width)) (chromaHeight (s .format) (s .height))
 
-  pub chroma-noise-gate-sums : chromaGateRefusal s a b c d ≡ 0 → ChromaSums (chromaPlane a b) (chromaPlane c d)
+  pub chroma-noise-gate-sums : gateRefusal s CbCr a b c d ≡ 0 → ChromaSums (chromaPlane a b) (chromaPlane c d)
   chroma-noise-gate-sums e =
-      let k = chroma-gate-call s a b c d e in
+      let k = gate-call s CbCr a b c d e in
       let n = chroma-small (s .format) _ _ (k .shape .size) in
       let S : Low (chromaPlane a b) = accepted-samples _ _ _ a b n (k .first) (k .second) in
       let T : Low (chromaPlane c d) = accepted-samples _ _ _ c d n (k .third) (k .fourth) in

@@ -16,8 +16,8 @@ use Rattle.noise.proofs.Steps.{lag-window}
 use Rattle.profile.specs.Steps.{planeSquares, planeSigma16}
 use Rattle.gate.specs.RowCorrelation.{rowCorrelation}
 use Rattle.gate.specs.Tests.{rowBound, timeBound, temporal, secondFinding, lumaRow, lumaFinding, chromaFinding}
-use Rattle.gate.specs.declared.tests.Finding.{Finding}
-use Rattle.gate.specs.declared.tests.Finding.the-variants.{LowSigma, EmptyPlane, NoEnergyFirst, RowCorrelated, NoEnergySecond, TimeCorrelated, Passed}
+use Rattle.gate.specs.declared.finding.Finding.{Finding}
+use Rattle.gate.specs.declared.finding.Finding.the-variants.{LowSigma, EmptyPlane, NoEnergyFirst, RowCorrelated, NoEnergySecond, TimeCorrelated, Passed}
 
 temporal-is : (p q : Pair) (cross e₀ e₁ r m : Float) (b : Bool) → cross ≡ dotF p q → e₀ ≡ dotF p p → e₁ ≡ dotF q q → r ≡ root (mul binary64 e₀ e₁)
     → m ≡ magnitudeOf (div binary64 cross r) → lt m timeBound ≡ b → cond b Passed TimeCorrelated ≡ temporal p q

@@ -6,6 +6,6 @@ pub mod Answers
 pub mod Yes
 pub mod PlusZero
 pub mod Energy
-pub mod Within
+pub mod AtMostOne
 pub mod RowWithin
 pub mod Demand

@@ -16,12 +16,13 @@ use Rattle.laws.proofs.Is.{again, known}
 use Rattle.laws.proofs.Sums.{sum-ext, sum-bound, sum-rows}
 use Rattle.laws.proofs.Scaled.{scaled-int}
 use Rattle.laws.proofs.Whole.{abs-mul-le}
+use Rattle.laws.specs.Limits.{planeLimit, sampleLimit}
 use Rattle.noise.specs.Noise.{noise, place}
 use Rattle.noise.specs.Shift.{shifted}
 use Rattle.noise.specs.Lines.{Plane}
 use Rattle.noise.specs.Grids.{sumOver, squared}
 use Rattle.noise.specs.Products.{pair, own, onward}
-use Rattle.noise.specs.Claim.{Limited, frameSamples, frameTop}
+use Rattle.noise.specs.Claim.{Limited}
 use Rattle.noise.specs.Steps.{dotF, lagF}
 use Rattle.noise.proofs.Accepted.{plane-samples}
 use Rattle.noise.proofs.Grids.{plane-noise-le}
@@ -36,7 +37,7 @@ use Rattle.profile.proofs.StepSums.{plane-sum}
 use Rattle.gate.specs.RowCorrelation.{energyF}
 
 module _ (w h : ℕ) (narrow : w ≤ 4096) (short : h ≤ 4096) where
-  limited : (s d : List ℕ) → Plane w h s d → Limited frameSamples frameTop (own (pair s d w h))
+  limited : (s d : List ℕ) → Plane w h s d → Limited planeLimit sampleLimit (own (pair s d w h))
   limited s d P = plane-samples w h s d narrow short P
 
   -- products at one place, as those at lag 0
@@ -48,13 +49,13 @@ module _ (w h : ℕ) (narrow : w ≤ 4096) (short : h ≤ 4096) where
   dot-is s d t e z P Q eq =
       let a = pair s d w h in
       let b = pair t e w h in
-      sym (scaled-int z) ∙ ap (ofScaled 0) (eq ∙ at-place s d t e) ∙ sym (dot-sum a b refl refl frameSamples frameTop (frame-held (own a) (own b)) (limited s d P) (limited t e Q))
+      sym (scaled-int z) ∙ ap (ofScaled 0) (eq ∙ at-place s d t e) ∙ sym (dot-sum a b refl refl planeLimit sampleLimit (frame-held (own a) (own b)) (limited s d P) (limited t e Q))
 
   pub lagged-is : (s d : List ℕ) (lag : ℕ) (z : ℤ) → Plane w h s d → z ≡ laggedSum (pair s d w h) (pair s d w h) lag
       → ofInt binary64 z ≡ lagF (pair s d w h) lag
   lagged-is s d lag z P eq =
       let a = pair s d w h in
-      sym (scaled-int z) ∙ ap (ofScaled 0) eq ∙ sym (lag-sum a lag frameSamples frameTop (frame-held (own a) (onward a lag)) (limited s d P))
+      sym (scaled-int z) ∙ ap (ofScaled 0) eq ∙ sym (lag-sum a lag planeLimit sampleLimit (frame-held (own a) (onward a lag)) (limited s d P))
 
   -- the energy of `lag_h_rho`, row by row
   pub energy-is : (s d : List ℕ) → Plane w h s d → energyF (pair s d w h) ≡ ofScaled 0 (laggedSum (pair s d w h) (pair s d w h) 0)

@@ -14,8 +14,8 @@ use Rattle.laws.specs.Sums.{sumTo}
 use Rattle.laws.proofs.Scaled.{scaled-int, scaled-zero}
 use Rattle.laws.proofs.Sums.{sum-bound, sum-nonneg}
 use Rattle.laws.proofs.Whole.{abs-mul-le, square-nonneg}
-use Rattle.frame.specs.Calls.{deepPlaneRefusal}
-use Rattle.frame.proofs.Accepted.{deep-plane-call}
+use Rattle.frame.specs.Calls.{pairRefusal}
+use Rattle.frame.proofs.Accepted.{pair-call}
 use Rattle.noise.specs.Noise.{noise, place}
 use Rattle.noise.specs.Lines.{Plane}
 use Rattle.noise.specs.Products.{pair}
@@ -28,10 +28,10 @@ use Rattle.gate.specs.Answers.{rho, rhoAnswer}
 use Rattle.gate.specs.declared.Rho.the-variants.{Value}
 use Rattle.gate.proofs.PlaneSums.{lagged-is, energy-is}
 use Rattle.gate.proofs.Energy.{lagged-within}
-use Rattle.gate.specs.Within.{Within}
-use Rattle.gate.proofs.Within.{quotient-within}
+use Rattle.gate.specs.AtMostOne.{AtMostOne}
+use Rattle.gate.proofs.AtMostOne.{quotient-within}
 
-nothing-within : Within plusZero
+nothing-within : AtMostOne plusZero
 unfolding le ofBits
 nothing-within = record { least = refl; most = refl }
 
@@ -67,18 +67,18 @@ module _ (w h lag : ℕ) (s d : List ℕ) (narrow : w ≤ 4096) (short : h ≤ 4
       go zero t = absurd (false≢true (sym t ∙ ap (λ (e : Float). le e plusZero) (scaled-zero 0)))
       go (suc n) t = omega arith
 
-  quotient : lag < w → le (energyF (pair s d w h)) plusZero ≡ false → Within (div binary64 (lagF (pair s d w h) lag) (energyF (pair s d w h)))
+  quotient : lag < w → le (energyF (pair s d w h)) plusZero ≡ false → AtMostOne (div binary64 (lagF (pair s d w h) lag) (energyF (pair s d w h)))
   quotient l t =
       let a = laggedSum (pair s d w h) (pair s d w h) lag in
-      subst Within (λ i. div binary64 ((scaled-int a ∙ lagged-is w h narrow short s d lag a P refl) i) (sym energy i))
+      subst AtMostOne (λ i. div binary64 ((scaled-int a ∙ lagged-is w h narrow short s d lag a P refl) i) (sym energy i))
       (quotient-within a (natAbs squares) (some t) small (lagged-within x h w lag (omega arith)))
 
-  pub row-within : Within (rowCorrelation (pair s d w h) lag)
+  pub row-within : AtMostOne (rowCorrelation (pair s d w h) lag)
   unfolding rowCorrelation
   row-within = go (eqb lag 0) (leb w lag) (eqb h 0) (le (energyF (pair s d w h)) plusZero) (nleb→lt w lag) refl
     where
       go : (a b c t : Bool) → (T (not b) → lag < w) → le (energyF (pair s d w h)) plusZero ≡ t
-          → Within (cond (a || (b || c)) plusZero (cond t plusZero (div binary64 (lagF (pair s d w h) lag) (energyF (pair s d w h)))))
+          → AtMostOne (cond (a || (b || c)) plusZero (cond t plusZero (div binary64 (lagF (pair s d w h) lag) (energyF (pair s d w h)))))
       go true b c t l e = nothing-within
       go false true c t l e = nothing-within
       go false false true t l e = nothing-within
@@ -86,13 +86,13 @@ module _ (w h lag : ℕ) (s d : List ℕ) (narrow : w ≤ 4096) (short : h ≤ 4
       go false false false false l e = quotient (l tt) e
 
 -- what the call answers, where it is no refusal
-pub answer-within : (s d : List ℕ) (w h lag depth : ℕ) (x : Float) → rhoAnswer s d w h lag depth ≡ Value x → Within x
+pub answer-within : (s d : List ℕ) (w h lag depth : ℕ) (x : Float) → rhoAnswer s d w h lag depth ≡ Value x → AtMostOne x
 unfolding rhoAnswer
-answer-within s d w h lag depth x e = go (deepPlaneRefusal w h depth s d) refl e
+answer-within s d w h lag depth x e = go (pairRefusal w h depth s d) refl e
   where
-    go : (n : ℕ) → deepPlaneRefusal w h depth s d ≡ n → rho n (rowCorrelation (pair s d w h) lag) ≡ Value x → Within x
+    go : (n : ℕ) → pairRefusal w h depth s d ≡ n → rho n (rowCorrelation (pair s d w h) lag) ≡ Value x → AtMostOne x
     go zero a v =
-        let k = deep-plane-call w h depth s d a in
+        let k = pair-call w h depth s d a in
         let f : rowCorrelation (pair s d w h) lag ≡ x = cc in
-        subst Within f (row-within w h lag s d (k .size .wide) (k .size .high) (plane-of w h depth s d (k .first) (k .second)))
+        subst AtMostOne f (row-within w h lag s d (k .size .wide) (k .size .high) (plane-of w h depth s d (k .first) (k .second)))
     go (suc n) a v = let z : _≡_ {A = ℕ} 0 1 = cc in absurd (omega arith)

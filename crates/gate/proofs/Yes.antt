@@ -9,8 +9,9 @@ use borrow.Author.Tests.{le-ltb, ltb-false, ne-eqb, eqb-false}
 use Rattle.laws.specs.Scaled.{plusZero}
 use Rattle.frame.specs.Size.{chromaWidth, chromaHeight}
 use Rattle.frame.specs.Questions.{accepted}
-use Rattle.frame.specs.Calls.{lumaGateRefusal, chromaGateRefusal}
+use Rattle.frame.specs.Calls.{gateRefusal}
 use Rattle.frame.specs.declared.Shape.{Shape}
+use Rattle.frame.specs.declared.view.Component.the-variants.{Y, CbCr}
 use Rattle.float.specs.Magnitude.{magnitudeOf}
 use Rattle.noise.specs.Products.{Pair, pair}
 use Rattle.noise.specs.Steps.{dotF}
@@ -19,8 +20,8 @@ use Rattle.gate.specs.RowCorrelation.{rowCorrelation}
 use Rattle.gate.specs.Tests.{rowBound, temporal, lumaRow, lumaFinding, chromaFinding, isPassed}
 use Rattle.gate.specs.Answers.{lumaAnswer, chromaAnswer}
 use Rattle.gate.specs.Passes.{LumaPasses, ChromaPasses}
-use Rattle.gate.specs.declared.tests.Finding.{Finding}
-use Rattle.gate.specs.declared.tests.Finding.the-variants.{LowSigma, EmptyPlane, NoEnergyFirst, RowCorrelated, NoEnergySecond, TimeCorrelated, Passed}
+use Rattle.gate.specs.declared.finding.Finding.{Finding}
+use Rattle.gate.specs.declared.finding.Finding.the-variants.{LowSigma, EmptyPlane, NoEnergyFirst, RowCorrelated, NoEnergySecond, TimeCorrelated, Passed}
 
 -- a test that ends with a no is not met, and what follows says yes
 after : (b : Bool) (end rest : Finding) → isPassed end ≡ false → isPassed (cond b end rest) ≡ true → (b ≡ false) × (isPassed rest ≡ true)
@@ -68,21 +69,21 @@ module _ (s : Shape) (a b c d : List ℕ) where
   abbrev lumaPlane : List ℕ → List ℕ → Pair
   lumaPlane x y = pair x y (s .width) (s .height)
 
-  pub film-grain-probe-yes : lumaAnswer s a b c d .yes ≡ true → (lumaGateRefusal s a b c d ≡ 0) × LumaPasses (planeSigma16 (s .depth - 8) a b) (lumaPlane a b) (lumaPlane c d)
+  pub film-grain-probe-yes : lumaAnswer s a b c d .yes ≡ true → (gateRefusal s Y a b c d ≡ 0) × LumaPasses (planeSigma16 (s .depth - 8) a b) (lumaPlane a b) (lumaPlane c d)
   unfolding lumaAnswer
-  film-grain-probe-yes e = let p = yes-of (lumaGateRefusal s a b c d) _ e in (p .0, luma-yes _ _ _ (p .1))
+  film-grain-probe-yes e = let p = yes-of (gateRefusal s Y a b c d) _ e in (p .0, luma-yes _ _ _ (p .1))
 
-  pub film-grain-probe-passes : lumaGateRefusal s a b c d ≡ 0 → LumaPasses (planeSigma16 (s .depth - 8) a b) (lumaPlane a b) (lumaPlane c d) → lumaAnswer s a b c d .yes ≡ true
+  pub film-grain-probe-passes : gateRefusal s Y a b c d ≡ 0 → LumaPasses (planeSigma16 (s .depth - 8) a b) (lumaPlane a b) (lumaPlane c d) → lumaAnswer s a b c d .yes ≡ true
   unfolding lumaAnswer
   film-grain-probe-passes e t = rw e (luma-passes _ _ _ t)
 
   abbrev chromaPlane : List ℕ → List ℕ → Pair
   chromaPlane x y = pair x y (chromaWidth (s .format) (s .width)) (chromaHeight (s .format) (s .height))
 
-  pub chroma-noise-gate-yes : (sigma16 : ℕ) → chromaAnswer s a b c d sigma16 .yes ≡ true → (chromaGateRefusal s a b c d ≡ 0) × ChromaPasses sigma16 (chromaPlane a b) (chromaPlane c d)
+  pub chroma-noise-gate-yes : (sigma16 : ℕ) → chromaAnswer s a b c d sigma16 .yes ≡ true → (gateRefusal s CbCr a b c d ≡ 0) × ChromaPasses sigma16 (chromaPlane a b) (chromaPlane c d)
   unfolding chromaAnswer
-  chroma-noise-gate-yes sigma16 e = let p = yes-of (chromaGateRefusal s a b c d) _ e in (p .0, chroma-yes _ _ _ (p .1))
+  chroma-noise-gate-yes sigma16 e = let p = yes-of (gateRefusal s CbCr a b c d) _ e in (p .0, chroma-yes _ _ _ (p .1))
 
-  pub chroma-noise-gate-passes : (sigma16 : ℕ) → chromaGateRefusal s a b c d ≡ 0 → ChromaPasses sigma16 (chromaPlane a b) (chromaPlane c d) → chromaAnswer s a b c d sigma16 .yes ≡ true
+  pub chroma-noise-gate-passes : (sigma16 : ℕ) → gateRefusal s CbCr a b c d ≡ 0 → ChromaPasses sigma16 (chromaPlane a b) (chromaPlane c d) → chromaAnswer s a b c d sigma16 .yes ≡ true
   unfolding chromaAnswer
   chroma-noise-gate-passes sigma16 e t = rw e (chroma-passes _ _ _ t)

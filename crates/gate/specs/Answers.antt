@@ -4,12 +4,13 @@ use Prim.Native.Nat.{ℕ, zero, suc, _-_}
 use mathlib.Core.Bool.{Bool, false}
 use lib.Ieee.{Float}
 use Rattle.frame.specs.Size.{chromaWidth, chromaHeight}
-use Rattle.frame.specs.Calls.{deepPlaneRefusal, lumaGateRefusal, chromaGateRefusal}
+use Rattle.frame.specs.Calls.{pairRefusal, gateRefusal}
 use Rattle.profile.specs.Steps.{planeSigma16}
 use Rattle.noise.specs.Products.{pair}
 use Rattle.gate.specs.RowCorrelation.{rowCorrelation}
 use Rattle.frame.specs.Questions.{accepted}
 use Rattle.frame.specs.declared.Shape.{Shape}
+use Rattle.frame.specs.declared.view.Component.the-variants.{Y, CbCr}
 use Rattle.gate.specs.Tests.{lumaFinding, chromaFinding, isPassed}
 use Rattle.gate.specs.declared.Gate.{Gate}
 use Rattle.gate.specs.declared.Rho.{Rho}
@@ -22,7 +23,7 @@ rho (suc n) x = Refused (suc n)
 
 -- `lag_h_rho`
 unfoldable pub rhoAnswer : List ℕ → List ℕ → ℕ → ℕ → ℕ → ℕ → Rho
-rhoAnswer source denoised w h lag depth = rho (deepPlaneRefusal w h depth source denoised) (rowCorrelation (pair source denoised w h) lag)
+rhoAnswer source denoised w h lag depth = rho (pairRefusal w h depth source denoised) (rowCorrelation (pair source denoised w h) lag)
 
 -- the answer of a gate, from the number of its questions
 abbrev pub gate : ℕ → Bool → Gate
@@ -33,11 +34,11 @@ unfoldable pub lumaAnswer : Shape → List ℕ → List ℕ → List ℕ → Lis
 lumaAnswer s y₀ d₀ y₁ d₁ =
     let w = s .width in
     let h = s .height in
-    gate (lumaGateRefusal s y₀ d₀ y₁ d₁) (isPassed (lumaFinding (planeSigma16 (s .depth - 8) y₀ d₀) (pair y₀ d₀ w h) (pair y₁ d₁ w h)))
+    gate (gateRefusal s Y y₀ d₀ y₁ d₁) (isPassed (lumaFinding (planeSigma16 (s .depth - 8) y₀ d₀) (pair y₀ d₀ w h) (pair y₁ d₁ w h)))
 
 -- `chroma_noise_gate`
 unfoldable pub chromaAnswer : Shape → List ℕ → List ℕ → List ℕ → List ℕ → ℕ → Gate
 chromaAnswer s c₀ d₀ c₁ d₁ sigma16 =
     let w = chromaWidth (s .format) (s .width) in
     let h = chromaHeight (s .format) (s .height) in
-    gate (chromaGateRefusal s c₀ d₀ c₁ d₁) (isPassed (chromaFinding sigma16 (pair c₀ d₀ w h) (pair c₁ d₁ w h)))
+    gate (gateRefusal s CbCr c₀ d₀ c₁ d₁) (isPassed (chromaFinding sigma16 (pair c₀ d₀ w h) (pair c₁ d₁ w h)))

@@ -2,5 +2,5 @@ pub mod RowCorrelation
 pub mod Tests
 pub mod Answers
 pub mod Passes
-pub mod Within
+pub mod AtMostOne
 pub mod Demand

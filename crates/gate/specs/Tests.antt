@@ -11,8 +11,8 @@ use Rattle.float.specs.Root.{root}
 use Rattle.noise.specs.Products.{Pair, own, onward}
 use Rattle.noise.specs.Steps.{windowF, dotF}
 use Rattle.gate.specs.RowCorrelation.{rowCorrelation}
-use Rattle.gate.specs.declared.tests.Finding.{Finding}
-use Rattle.gate.specs.declared.tests.Finding.the-variants.{LowSigma, EmptyPlane, NoEnergyFirst, RowCorrelated, NoEnergySecond, TimeCorrelated, Passed}
+use Rattle.gate.specs.declared.finding.Finding.{Finding}
+use Rattle.gate.specs.declared.finding.Finding.the-variants.{LowSigma, EmptyPlane, NoEnergyFirst, RowCorrelated, NoEnergySecond, TimeCorrelated, Passed}
 
 -- 0.75 and 0.4
 abbrev pub rowBound : Float

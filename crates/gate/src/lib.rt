@@ -1,8 +1,9 @@
 // Row correlation, and the gates of luma and of chroma.
-mod correlations;
+mod finding;
+mod row_correlation;
 mod sums;
-mod tests;
 
+use frame::Component;
 use frame::Shape;
 ghost use mathlib.Core.Path.{_≡_};
 ghost use Rattle.gate.specs.Answers.{rhoAnswer, lumaAnswer, chromaAnswer};
@@ -31,18 +32,18 @@ pub fn lag_h_rho(
 ) -> Rho
     ensures { λ r. ⌜ r ≡ rhoAnswer (now (src .entry)) (now (den .entry)) width height lag depth ⌝ }
 {
-    let n = frame::deep_plane_call(src, den, width, height, depth);
+    let n = frame::pair_refusal(src, den, width, height, depth);
     if n != 0 {
         return Rho::Refused(n);
     }
-    Rho::Value(correlations::row_correlation(src, den, width, height, lag))
+    Rho::Value(row_correlation::row_correlation(src, den, width, height, lag))
 }
 
 // Whether the luma of two frames carries grain: the tests of the luma gate, in their order.
 pub fn film_grain_probe(s: Shape, y0: &[u16], d0: &[u16], y1: &[u16], d1: &[u16]) -> Gate
     ensures { λ r. ⌜ r ≡ lumaAnswer s (now (y0 .entry)) (now (d0 .entry)) (now (y1 .entry)) (now (d1 .entry)) ⌝ }
 {
-    let n = frame::luma_gate_call(s, y0, d0, y1, d1);
+    let n = frame::gate_refusal(s, Component::Y, y0, d0, y1, d1);
     if n != 0 {
         return Gate {
             refusal: n,
@@ -50,10 +51,10 @@ pub fn film_grain_probe(s: Shape, y0: &[u16], d0: &[u16], y1: &[u16], d1: &[u16]
         };
     }
     let shift = (s.depth - 8) as u32;
-    let found = tests::luma_finding(y0, d0, y1, d1, s.width, s.height, shift);
+    let found = finding::luma_finding(y0, d0, y1, d1, s.width, s.height, shift);
     Gate {
         refusal: 0,
-        yes: tests::is_passed(found),
+        yes: finding::is_passed(found),
     }
 }
 
@@ -68,16 +69,24 @@ pub fn chroma_noise_gate(
 ) -> Gate
     ensures { λ r. ⌜ r ≡ chromaAnswer s (now (c0 .entry)) (now (d0 .entry)) (now (c1 .entry)) (now (d1 .entry)) sigma16 ⌝ }
 {
-    let n = frame::chroma_gate_call(s, c0, d0, c1, d1);
+    let n = frame::gate_refusal(s, Component::CbCr, c0, d0, c1, d1);
     if n != 0 {
         return Gate {
             refusal: n,
             yes: false,
         };
     }
-    let found = tests::chroma_finding(sigma16, c0, d0, c1, d1, s.chroma_width(), s.chroma_height());
+    let found = finding::chroma_finding(
+        sigma16,
+        c0,
+        d0,
+        c1,
+        d1,
+        s.chroma_width(),
+        s.chroma_height(),
+    );
     Gate {
         refusal: 0,
-        yes: tests::is_passed(found),
+        yes: finding::is_passed(found),
     }
 }

@@ -1,11 +1,11 @@
 // Calls on a whole frame.
-use correlation::ChromaCorr;
+use chroma_correlation::ChromaCorr;
 use frame::Shape;
 use profile::NoiseEstimate;
 ghost use mathlib.Core.Path.{_≡_};
 ghost use Rattle.denoise.specs.Calls.{planes, frameOutcome};
 ghost use Rattle.profile.specs.Answers.{estimateAnswer};
-ghost use Rattle.correlation.specs.Answer.{corrAnswer};
+ghost use Rattle.chroma_correlation.specs.Answer.{corrAnswer};
 
 #[no_mangle]
 pub extern "C" fn grain_denoise_frame(
@@ -49,5 +49,5 @@ pub extern "C" fn grain_fit_chroma_corr(
 ) -> ChromaCorr
     ensures { λ r. ⌜ r ≡ corrAnswer s (now (y .entry)) (now (cb .entry)) (now (cr .entry)) (now (dy .entry)) (now (dcb .entry)) (now (dcr .entry)) ⌝ }
 {
-    correlation::fit_chroma_corr(s, y, cb, cr, dy, dcb, dcr)
+    chroma_correlation::fit_chroma_corr(s, y, cb, cr, dy, dcb, dcr)
 }

@@ -1,5 +1,7 @@
+pub mod Order
 pub mod Loop
 pub mod Table
+pub mod Fill
 pub mod Parts
 pub mod Whole
 pub mod Sums
@@ -8,6 +10,7 @@ pub mod Finite
 pub mod Scaled
 pub mod Visit
 pub mod Sets
+pub mod Members
 pub mod Window
 pub mod FloatSums
 pub mod Law

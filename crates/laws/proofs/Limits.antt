@@ -1,16 +1,13 @@
--- Limits whose sums f64 holds exactly: of two factors multiplied, the scope's, and the widest there is. Assumes nothing.
-use mathlib.Core.Path.{_≡_, refl}
+-- Limits whose sums f64 holds exactly: of two factors multiplied, and the widest there is. Assumes nothing.
 use mathlib.Core.List.{List}
 use Prim.Native.Nat.{ℕ, _+_, _*_, _^_, _≤_}
 use native.Mathlib.Nat.{le-trans}
 use lib.Dec.{lit≤}
 use lib.IntN.{ℤ, _*ℤ_}
 use lib.Ieee.{Float, binary64, mul}
-use Rattle.laws.specs.Law.{Held, Product, ExactSums}
-use Rattle.laws.specs.FrameLimit.{factorLimit, frameLimit}
+use Rattle.laws.specs.Law.{Held, Product}
 use Rattle.laws.proofs.Whole.{abs-mul-le}
 use Rattle.laws.proofs.Scaled.{mul-holds}
-use Rattle.laws.proofs.Law.{law-of-sums}
 
 -- two factors, in 2 ^ j-ths and 2 ^ k-ths, of at most c and d of them
 module _ (n j k c d : ℕ) (fine : j + k ≤ 1074) (room : c * d ≤ 2 ^ 53) {A : Type 0} (all : List A) (u v : A → Float) (x y : A → ℤ) where
@@ -21,18 +18,6 @@ module _ (n j k c d : ℕ) (fine : j + k ≤ 1074) (room : c * d ≤ 2 ^ 53) {A 
     small = λ p h. abs-mul-le (x p) (y p) c d (P .small p h) (Q .small p h);
     holds = λ p h. mul-holds j k (x p) (y p) (u p) (v p) (P .holds p h) (Q .holds p h) (le-trans (abs-mul-le (x p) (y p) c d (P .small p h) (Q .small p h)) room) fine;
   }
-
--- 4,096 × 4,096 samples below 2 ^ 12: the sums reach 2 ^ 52
-pub frame-held : Held frameLimit
-frame-held = record { fine = lit≤ tt; room = lit≤ tt }
-
-pub frame-room : frameLimit .count * frameLimit .size ≡ 2 ^ 52
-frame-room = refl
-
-pub frame-law : {A : Type 0} (all : List A) (u v : A → Float) (x y : A → ℤ) → Product factorLimit all u x → Product factorLimit all v y
-    → ExactSums frameLimit all (λ p. mul binary64 (u p) (v p)) (λ p. x p *ℤ y p)
-frame-law all u v x y P Q =
-    law-of-sums frameLimit frame-held all (λ p. mul binary64 (u p) (v p)) (λ p. x p *ℤ y p) (multiplied (4096 * 4096) 2 2 (4 * 2 ^ 12) (4 * 2 ^ 12) (lit≤ tt) (lit≤ tt) all u v x y P Q)
 
 -- the widest: 2 ^ 53 positions, each one of the finest parts
 pub widest-held : Held (record { scale = 1074; count = 2 ^ 53; size = 1 })

@@ -1,22 +1,16 @@
 -- A part of a list: its entries, and a table that is filled part by part. Assumes nothing.
 use mathlib.Core.Path.{_≡_}
-use mathlib.Core.List.{List, _++_, append-nil, append-assoc}
-use Prim.Native.Nat.{ℕ, zero, suc, _+_, _<_, _≤_}
-use native.Mathlib.Nat.{add-zero, add-suc}
+use mathlib.Core.List.{List, _++_, append-assoc}
+use Prim.Native.Nat.{ℕ, _+_, _<_, _≤_}
 use lib.ListN.{length, getD, take, drop, length-append}
 use lib.Seq.{getD-take, getD-drop, take-at, length-take-le}
 use Rattle.laws.specs.Table.{tabulate}
-use Rattle.laws.proofs.Table.{length-tabulate}
+use Rattle.laws.proofs.Table.{length-tabulate, tabulate-add}
 
 module _ {ℓ} {A : Type ℓ} where
   -- entry i of the part that starts at a and is n long
   pub getD-part : (l : List A) (a n i : ℕ) (d : A) → i < n → getD (take n (drop a l)) i d ≡ getD l (a + i) d
   getD-part l a n i d h = rw (getD-take, getD-drop)
-
-  -- a table is its first m entries and the n after them
-  tabulate-add : (m n : ℕ) (f : ℕ → A) → tabulate (m + n) f ≡ tabulate m f ++ tabulate n (λ i. f (m + i))
-  tabulate-add m zero f = rw (add-zero, append-nil)
-  tabulate-add m (suc n) f = rw (add-suc, tabulate-add m n f, append-assoc)
 
   -- one part more: l's entries from a on are replaced by q
   pub tabulate-part : (l q rest : List A) (a n : ℕ) (f : ℕ → A) → a ≤ length l → take a l ≡ tabulate a f → q ≡ tabulate n (λ i. f (a + i))

@@ -8,7 +8,7 @@ use native.Mathlib.Nat.{suc-le-suc-iff, le-trans, le-of-eq}
 use lib.IntN.{ℤ, _+ℤ_, +ℤ-assoc, +ℤ-comm}
 use lib.ListN.{length}
 use Rattle.laws.specs.Sums.{sumZ}
-use Rattle.laws.specs.Sets.{In, NoDup, Within, Same, Apart}
+use Rattle.laws.specs.Sets.{In, NoDup, Subset, Same, Apart}
 
 module _ {A : Type 0} where
   -- ---- a list without one of its members
@@ -43,7 +43,7 @@ module _ {A : Type 0} where
       more (inl d) = inl d
       more (inr m) = inr (inr m)
 
-  still : (p : A) (qs : List A) (h : In p qs) → Within (without p qs h) qs
+  still : (p : A) (qs : List A) (h : In p qs) → Subset (without p qs h) qs
   still p [] h r k = absurd h
   still p (q ∷ qs) (inl e) r k = inr k
   still p (q ∷ qs) (inr h) r (inl d) = inl d
@@ -61,14 +61,14 @@ module _ {A : Type 0} where
   gone p (q ∷ qs) (inr h) n (inr k) = gone p qs h (n .1) k
 
   -- what is within a set, but for its first member, is within the rest
-  rest : (p : A) (ps qs : List A) → NoDup (p ∷ ps) → (W : Within (p ∷ ps) qs) → Within ps (without p qs (W p (inl refl)))
+  rest : (p : A) (ps qs : List A) → NoDup (p ∷ ps) → (W : Subset (p ∷ ps) qs) → Subset ps (without p qs (W p (inl refl)))
   rest p ps qs n W r k = left (other p qs (W p (inl refl)) r (W r (inr k)))
     where
       left : (r ≡ p) ⊎ In r (without p qs (W p (inl refl))) → In r (without p qs (W p (inl refl)))
       left (inl e) = absurd (n .0 (subst (λ (q : A). In q ps) e k))
       left (inr m) = m
 
-  pub length-within : (ps qs : List A) → NoDup ps → Within ps qs → length ps ≤ length qs
+  pub length-within : (ps qs : List A) → NoDup ps → Subset ps qs → length ps ≤ length qs
   length-within [] qs n W = zero-le
   length-within (p ∷ ps) qs n W =
       let h = W p (inl refl) in

@@ -1,11 +1,11 @@
 -- The laws of `tabulate`: its length and entries, and a list that is filled from the front, store by store. Assumes nothing.
 use mathlib.Core.Path.{_≡_, refl, sym, _∙_}
-use mathlib.Core.List.{List, [], _∷_, map, map-append}
+use mathlib.Core.List.{List, [], _∷_, _++_, map, map-append, append-nil, append-assoc}
 use mathlib.Core.Logic.{⊎-elim}
 use Prim.Native.Nat.{ℕ, zero, suc, _+_, _<_, _≤_}
 use native.Mathlib.Omega.{arith}
 use native.Mathlib.Numerals.{add-one}
-use native.Mathlib.Nat.{eq-or-lt-of-le, le-of-suc-le-suc, not-suc-le-zero, le-refl, le-trans, le-suc}
+use native.Mathlib.Nat.{add-zero, add-suc, eq-or-lt-of-le, le-of-suc-le-suc, not-suc-le-zero, le-refl, le-trans, le-suc}
 use lib.ListN.{length, getD, take, set, length-append, List·getD-append}
 use lib.Seq.{getD-at, take-suc-set, take-all}
 use Rattle.laws.specs.Table.{tabulate}
@@ -43,6 +43,15 @@ module _ {ℓ} {A : Type ℓ} where
   pub tabulate-same : (n : ℕ) (f g : ℕ → A) → ((i : ℕ) → i < n → f i ≡ g i) → tabulate n f ≡ tabulate n g
   tabulate-same zero f g h = refl
   tabulate-same (suc n) f g h = rw (tabulate-same n f g (λ i l. h i (le-trans l (le-suc n))), h n (le-refl (suc n)))
+
+  -- a table is its first m entries and the n after them
+  pub tabulate-add : (m n : ℕ) (f : ℕ → A) → tabulate (m + n) f ≡ tabulate m f ++ tabulate n (λ i. f (m + i))
+  tabulate-add m zero f = rw (add-zero, append-nil)
+  tabulate-add m (suc n) f = rw (add-suc, tabulate-add m n f, append-assoc)
+
+  -- two tables, the second of which goes on with the first
+  pub tabulate-then : (m n : ℕ) (f g : ℕ → A) → ((j : ℕ) → j < n → g j ≡ f (m + j)) → tabulate m f ++ tabulate n g ≡ tabulate (m + n) f
+  tabulate-then m n f g h = rw (tabulate-same n g (λ j. f (m + j)) h, tabulate-add m n f)
 
 pub map-tabulate {ℓ κ} : {A : Type ℓ} {B : Type κ} (g : A → B) (n : ℕ) (f : ℕ → A) → map g (tabulate n f) ≡ tabulate n (λ i. g (f i))
 map-tabulate g zero f = refl

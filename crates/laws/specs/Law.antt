@@ -7,7 +7,7 @@ use lib.ListN.{length}
 use lib.Ieee.{Float, binary64, add}
 use Rattle.laws.specs.Sums.{sumZ}
 use Rattle.laws.specs.Scaled.{plusZero, ofScaled, Holds}
-use Rattle.laws.specs.Sets.{In, NoDup, Within, Same, Apart}
+use Rattle.laws.specs.Sets.{In, NoDup, Subset, Same, Apart}
 use Rattle.laws.specs.FloatSums.{sumF}
 
 -- ---- the premise
@@ -31,7 +31,7 @@ pub record Product (L : Limit) {A : Type 0} (all : List A) (f : A → Float) (g 
 -- a set of its positions, in some order
 pub record Positions {A : Type 0} (all ps : List A) : Type 0 where
   pub once : NoDup ps
-  pub inside : Within ps all
+  pub inside : Subset ps all
 
 -- ---- the claim, of any set of its positions in any order
 pub record ExactSums (L : Limit) {A : Type 0} (all : List A) (f : A → Float) (g : A → ℤ) : Type 0 where

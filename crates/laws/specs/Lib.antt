@@ -6,4 +6,4 @@ pub mod Window
 pub mod Sets
 pub mod FloatSums
 pub mod Law
-pub mod FrameLimit
+pub mod Limits

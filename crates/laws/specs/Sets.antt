@@ -12,11 +12,11 @@ module _ {A : Type 0} where
   NoDup [] = Unit
   NoDup (p ∷ ps) = (In p ps → ⊥) × NoDup ps
 
-  abbrev pub Within : List A → List A → Type 0
-  Within ps qs = (p : A) → In p ps → In p qs
+  abbrev pub Subset : List A → List A → Type 0
+  Subset ps qs = (p : A) → In p ps → In p qs
 
   abbrev pub Same : List A → List A → Type 0
-  Same ps qs = Within ps qs × Within qs ps
+  Same ps qs = Subset ps qs × Subset qs ps
 
   -- no position in both
   abbrev pub Apart : List A → List A → Type 0

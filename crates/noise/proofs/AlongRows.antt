@@ -15,7 +15,7 @@ use Rattle.laws.proofs.Is.{Is, again, times, known, sfits}
 use Rattle.noise.specs.Noise.{noise, place}
 use Rattle.noise.specs.Lines.{at}
 use Rattle.noise.specs.AverageSums.{Along, along}
-use Rattle.noise.proofs.Grids.{plane-noise-le}
+use Rattle.noise.proofs.Seen.{plane-noise-le}
 use Rattle.noise.proofs.BlockSums.{wide, wide32, wide64}
 
 module _ {averages : List ℤ} {source denoised : List ℕ} {w h y : ℕ} (A : Along averages source denoised w h y) where

@@ -15,9 +15,9 @@ use Rattle.laws.proofs.Whole.{abs-mul-le, mul-sum, sum-mul}
 use Rattle.laws.proofs.Sums.{sum-ext, sum-add, sum-bound}
 use Rattle.noise.specs.Noise.{noise, place}
 use Rattle.noise.specs.Average.{Luma, subX, subY, lumaPlace, quarters}
-use Rattle.noise.specs.Lines.{at, Within, Plane}
+use Rattle.noise.specs.Lines.{at, AtMost, Plane}
 use Rattle.noise.specs.Quarters.{quartered, columns}
-use Rattle.noise.proofs.Grids.{plane-noise-le}
+use Rattle.noise.proofs.Seen.{plane-noise-le}
 use Rattle.noise.proofs.LineSums.{entry, size}
 use Rattle.noise.proofs.Quarters.{abs-add-le}
 
@@ -113,7 +113,7 @@ module _ (l : Luma) (P : Plane (l .width) (l .height) (l .source) (l .denoised))
         ap (λ (z : ℤ). z *ℤ pos (2 ^ (1 - subX (l .format)))) (sum-ext _ _ (subX (l .format) + 1) (λ j m. cell c j k))
         ∙ pairs-are (λ i j. noise (l .source) (l .denoised) (lumaPlace l r c i j)) (leb (l .format) 2) (leb (l .format) 1)
 
-    pub sums-small : Within 8190 sums
+    pub sums-small : AtMost 8190 sums
     sums-small i k =
         let o = lt-of-lt-of-le k (le-of-eq wide) in
         le-trans (le-of-eq (ap natAbs (entry (l .width) _ (T .sums-are) i o)))

@@ -11,10 +11,10 @@ use Rattle.laws.specs.Sums.{sumTo}
 use Rattle.laws.proofs.Sums.{sum-ext}
 use Rattle.noise.specs.Noise.{noise, place}
 use Rattle.noise.specs.Average.{Luma, subX, subY, quarters}
-use Rattle.noise.specs.Lines.{product, Within, Lines}
+use Rattle.noise.specs.Lines.{product, AtMost, Lines}
 use Rattle.noise.specs.Quarters.{columns}
 use Rattle.noise.specs.AverageSums.{squaresAlong, productsAlong, Component, Along, along}
-use Rattle.noise.proofs.Grids.{plane-noise-le}
+use Rattle.noise.proofs.Seen.{plane-noise-le}
 use Rattle.noise.proofs.LineSums.{entry, size, sum-le, sum-is, are-lines}
 use Rattle.noise.proofs.Averages.{quarters-le}
 use Rattle.noise.proofs.ChromaSize.{Over, over, columns-le, rows-le}
@@ -60,7 +60,7 @@ module _ (l : Luma) {source denoised : List ℕ} {cw ch : ℕ} (K : Component l 
       averages-count : length averages ≡ cw
       averages-count = size cw (quarters l r) filled
 
-      averages-small : Within 16380 averages
+      averages-small : AtMost 16380 averages
       averages-small c k =
           let o : c < cw = lt-of-lt-of-le k (le-of-eq averages-count) in
           le-trans (le-of-eq (ap natAbs (entry cw (quarters l r) filled c o))) (average-le c o)

@@ -8,14 +8,13 @@ pub mod Accepted
 pub mod Steps
 pub mod FitWindow
 pub mod Divided
-pub mod Fill
 pub mod Lines
 pub mod Shift
 pub mod BlockSums
 pub mod LineSums
 pub mod NoiseSums
 pub mod NoiseLines
-pub mod Grids
+pub mod Seen
 pub mod Quarters
 pub mod Averages
 pub mod ChromaSize

@@ -16,7 +16,7 @@ use Rattle.laws.proofs.Whole.{abs-mul-le}
 use Rattle.noise.specs.Noise.{noise}
 use Rattle.noise.specs.Shift.{shifted}
 use Rattle.noise.specs.Lines.{at, product, Places, Lines, NoiseLine}
-use Rattle.noise.specs.Grids.{squared}
+use Rattle.noise.specs.Seen.{squared}
 use Rattle.noise.proofs.Lines.{noise-le}
 use Rattle.noise.proofs.LineSums.{entry, size, are-lines, sum-is, sum-le}
 

@@ -16,9 +16,10 @@ use Rattle.laws.proofs.Whole.{abs-mul-le}
 use Rattle.laws.proofs.Scaled.{holds-finer}
 use Rattle.laws.proofs.Limits.{multiplied}
 use Rattle.laws.proofs.Law.{law-of-sums}
+use Rattle.laws.specs.Limits.{planeLimit, sampleLimit}
 use Rattle.noise.specs.Average.{quarters}
 use Rattle.noise.specs.Products.{Factor, noiseFrom, average, Exists, floatAt, productF, whole, exactly, scale}
-use Rattle.noise.specs.Claim.{Samples, Limited, frameSamples, frameTop, limitOf, Exact}
+use Rattle.noise.specs.Claim.{Samples, Limited, limitOf, Exact}
 use Rattle.noise.proofs.Count.{places-few}
 use Rattle.noise.proofs.Factors.{fine, parts, factor-exact}
 
@@ -91,18 +92,18 @@ products-exact limit top u v H S T (p ∷ ps) P =
     (product limit top (p ∷ ps) f u v S T (P .exist) (one-held limit (2 ^ scale u v * (top * top)) (lt-of-lt-of-le (zero-lt-suc (length ps)) f) (H .room)))
 
 -- ---- "(At most 4,096×4,096 samples below 2^12.)"
-pub frame-held : (u v : Factor) → Held (limitOf frameSamples frameTop u v)
+pub frame-held : (u v : Factor) → Held (limitOf planeLimit sampleLimit u v)
 frame-held (noiseFrom a dr dc) (noiseFrom b er ec) = record { fine = lit≤ tt; room = lit≤ tt }
 frame-held (noiseFrom a dr dc) (average m) = record { fine = lit≤ tt; room = lit≤ tt }
 frame-held (average l) (noiseFrom b er ec) = record { fine = lit≤ tt; room = lit≤ tt }
 frame-held (average l) (average m) = record { fine = lit≤ tt; room = lit≤ tt }
 
-pub frame-products-exact : (u v : Factor) → Limited frameSamples frameTop u → Limited frameSamples frameTop v → Exact frameSamples frameTop u v
-frame-products-exact u v S T = products-exact frameSamples frameTop u v (frame-held u v) S T
+pub frame-products-exact : (u v : Factor) → Limited planeLimit sampleLimit u → Limited planeLimit sampleLimit v → Exact planeLimit sampleLimit u v
+frame-products-exact u v S T = products-exact planeLimit sampleLimit u v (frame-held u v) S T
 
 -- planes that every question lets pass
 pub frame-samples : (w h depth : ℕ) (source denoised : List ℕ) → w ≤ 4096 → h ≤ 4096 → depth ≤ 12
-    → ((i : ℕ) → i < w * h → getD source i 0 < 2 ^ depth) → ((i : ℕ) → i < w * h → getD denoised i 0 < 2 ^ depth) → Samples frameSamples frameTop source denoised (w * h)
+    → ((i : ℕ) → i < w * h → getD source i 0 < 2 ^ depth) → ((i : ℕ) → i < w * h → getD denoised i 0 < 2 ^ depth) → Samples planeLimit sampleLimit source denoised (w * h)
 frame-samples w h depth source denoised k l m a b = record {
   few = mul-le-mul k l;
   lowSource = λ i j. lt-of-lt-of-le (a i j) (pow-mono m);

@@ -12,7 +12,7 @@ use mir.Val.{ofZ, toZ}
 use Rattle.laws.specs.Sums.{sumTo}
 use Rattle.laws.proofs.Whole.{abs-add, abs-mul-le}
 use Rattle.laws.proofs.Is.{Is, self, again, sfits, plus, times}
-use Rattle.noise.specs.Lines.{at, Within}
+use Rattle.noise.specs.Lines.{at, AtMost}
 use Rattle.noise.specs.Quarters.{quartered}
 
 -- ---- the machine's numbers
@@ -32,7 +32,7 @@ twice-is : (x : ℤ) → natAbs x ≤ 8190 → Is w16 (local x *ℤ pos 2) (x *�
 twice-is x h = times (held x h) (self (sfits w16 (pos 2) (lit< tt))) (lt-of-le-of-lt (abs-mul-le x (pos 2) 8190 2 h (le-of-eq refl)) (lit< tt))
 
 -- ---- what a column gets
-module _ (sums : List ℤ) (S : Within 8190 sums) where
+module _ (sums : List ℤ) (S : AtMost 8190 sums) where
   pub kept-is : (c : ℕ) → c < length sums → Is w16 (local (at sums c) *ℤ pos 2) (quartered 0 sums c)
   unfolding quartered sumTo
   kept-is c l =

@@ -17,10 +17,11 @@ use Rattle.laws.specs.Law.{Held}
 use Rattle.laws.proofs.Sums.{sum-ext, span-zero}
 use Rattle.laws.proofs.Window.{in-window, window-nodup, sum-window}
 use Rattle.laws.proofs.FloatSums.{loops-sum}
+use Rattle.laws.specs.Limits.{planeLimit, sampleLimit}
 use Rattle.noise.specs.Noise.{noise, noiseF, place}
-use Rattle.noise.specs.Grids.{sumOver}
+use Rattle.noise.specs.Seen.{sumOver}
 use Rattle.noise.specs.Products.{Pair, Factor, own, onward, Inside, Exists, reached, productF, exactly, scale}
-use Rattle.noise.specs.Claim.{Limited, limitOf, frameSamples, frameTop, PositionsOf, Case}
+use Rattle.noise.specs.Claim.{Limited, limitOf, PositionsOf, Case}
 use Rattle.noise.specs.Steps.{windowF, dotF, lagF}
 use Rattle.noise.proofs.Loops.{loop-rows, loop-tested}
 use Rattle.noise.proofs.Products.{products-exact, frame-products-exact}
@@ -40,7 +41,7 @@ unfolding windowF ofBits
 window-case u v a b c d = loops-sum (λ y x. productF u v (y, x)) a b c d
 
 -- of a frame's planes
-pub frame-case : (u v : Factor) (a b c d : ℕ) → Everywhere u v a b c d → Limited frameSamples frameTop u → Limited frameSamples frameTop v → Case u v (window a b c d) (windowF u v a b c d)
+pub frame-case : (u v : Factor) (a b c d : ℕ) → Everywhere u v a b c d → Limited planeLimit sampleLimit u → Limited planeLimit sampleLimit v → Case u v (window a b c d) (windowF u v a b c d)
 frame-case u v a b c d e S T = record {
   positions = window-positions u v a b c d e;
   added = window-case u v a b c d;

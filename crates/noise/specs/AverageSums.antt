@@ -8,7 +8,7 @@ use Rattle.laws.specs.Sums.{sumTo}
 use Rattle.frame.specs.Size.{chromaWidth, chromaHeight}
 use Rattle.noise.specs.Noise.{noise, place}
 use Rattle.noise.specs.Average.{Luma, quarters}
-use Rattle.noise.specs.Lines.{at, Within, Plane}
+use Rattle.noise.specs.Lines.{at, AtMost, Plane}
 
 -- the squared averages along chroma row r and over the plane, in sixteenths
 abbrev pub squaresAlong : Luma → ℕ → ℕ → ℤ
@@ -39,7 +39,7 @@ pub record Along (averages : List ℤ) (source denoised : List ℕ) (w h y : ℕ
   pub row : y < h
   pub narrow : w ≤ 4096
   pub count : length averages ≡ w
-  pub within : Within 16380 averages
+  pub within : AtMost 16380 averages
 
 -- average × noise at column c
 abbrev pub along : List ℤ → List ℕ → List ℕ → ℕ → ℕ → ℕ → ℤ

@@ -9,6 +9,7 @@ use Rattle.laws.specs.Window.{Place}
 use Rattle.laws.specs.Sets.{In, NoDup}
 use Rattle.laws.specs.FloatSums.{sumF}
 use Rattle.laws.specs.Law.{Limit, ExactSums}
+use Rattle.laws.specs.Limits.{planeLimit, sampleLimit}
 use Rattle.noise.specs.Products.{Factor, noiseFrom, average, Exists, productF, exactly, scale}
 
 -- at most `limit` samples, each below `top`, in a plane and in its copy; past a list's end the sample is 0
@@ -21,13 +22,6 @@ pub record Samples (limit top : ℕ) (source denoised : List ℕ) (count : ℕ) 
 abbrev pub Limited : ℕ → ℕ → Factor → Type 0
 Limited limit top (noiseFrom plane dr dc) = Samples limit top (plane .source) (plane .denoised) (plane .width * plane .height)
 Limited limit top (average luma) = Samples limit top (luma .source) (luma .denoised) (luma .width * luma .height)
-
--- the most samples that a frame has, and what each of them is below
-abbrev pub frameSamples : ℕ
-frameSamples = 4096 * 4096
-
-abbrev pub frameTop : ℕ
-frameTop = 2 ^ 12
 
 -- no product is above top × top, and there are no more of them than samples
 abbrev pub limitOf : ℕ → ℕ → Factor → Factor → Limit
@@ -46,4 +40,4 @@ Exact limit top u v = (all : List Place) → PositionsOf u v all → ExactSums (
 pub record Case (u v : Factor) (places : List Place) (sum : Float) : Type 0 where
   pub positions : PositionsOf u v places
   pub added : sum ≡ sumF (map (productF u v) places)
-  pub exact : Exact frameSamples frameTop u v
+  pub exact : Exact planeLimit sampleLimit u v

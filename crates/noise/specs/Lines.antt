@@ -2,6 +2,7 @@
 use mathlib.Core.Path.{_≡_}
 use mathlib.Core.List.{List}
 use Prim.Native.Nat.{ℕ, _+_, _*_, _^_, _≤_, _<_}
+use Rattle.laws.specs.Limits.{sideLimit, sampleLimit}
 use lib.IntN.{ℤ, pos, natAbs, _*ℤ_}
 use lib.ListN.{length, getD}
 
@@ -14,8 +15,8 @@ abbrev pub product : List ℤ → List ℤ → ℕ → ℤ
 product p q i = at p i *ℤ at q i
 
 -- every number of a line is at most m in size
-abbrev pub Within : ℕ → List ℤ → Type 0
-Within m line = (i : ℕ) → i < length line → natAbs (at line i) ≤ m
+abbrev pub AtMost : ℕ → List ℤ → Type 0
+AtMost m line = (i : ℕ) → i < length line → natAbs (at line i) ≤ m
 
 -- every sample of a plane is below c
 abbrev pub Below : ℕ → List ℕ → Type 0
@@ -29,16 +30,16 @@ pub record Places (limit : ℕ) (source denoised : List ℕ) (start stride n : �
   pub source-low : Below limit source
   pub denoised-low : Below limit denoised
 
--- a plane and its denoised copy: h rows of w samples, below 2^12
+-- a plane and its denoised copy: h rows of w low samples
 pub record Plane (w h : ℕ) (source denoised : List ℕ) : Type 0 where
   pub source-size : length source ≡ w * h
   pub denoised-size : length denoised ≡ w * h
-  pub source-low : Below (2 ^ 12) source
-  pub denoised-low : Below (2 ^ 12) denoised
+  pub source-low : Below sampleLimit source
+  pub denoised-low : Below sampleLimit denoised
 
--- a line of noise of such samples: at most 4,096 numbers, each at most 4,095 in size
+-- a line of noise of such samples
 pub record NoiseLine (line : List ℤ) : Type 0 where
-  pub few : length line ≤ 2 ^ 12
+  pub few : length line ≤ sideLimit
   pub small : (i : ℕ) → i < length line → natAbs (at line i) ≤ 4095
 
 -- two lines of one length, whose products are so small that an i32 holds the sum of any `size` of them

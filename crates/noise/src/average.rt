@@ -6,7 +6,7 @@ ghost use lib.ListN.{length, take};
 ghost use Rattle.laws.specs.Table.{tabulate};
 ghost use Rattle.noise.specs.Noise.{noise, place};
 ghost use Rattle.noise.specs.Average.{subX, subY, quarters};
-ghost use Rattle.noise.specs.Lines.{Within, Plane};
+ghost use Rattle.noise.specs.Lines.{AtMost, Plane};
 ghost use Rattle.noise.specs.Quarters.{quartered, columns, luma};
 
 // 1 where the format halves the columns, else 0.
@@ -25,7 +25,7 @@ pub fn sub_y(format: u8) -> usize
 
 // line[i] = sums[i] × 2.
 fn kept_line(sums: &[i16], line: &mut [i16])
-    requires { ⌜ Within 8190 (now sums) × (length (now line) ≡ columns 0 (length (now sums))) ⌝ }
+    requires { ⌜ AtMost 8190 (now sums) × (length (now line) ≡ columns 0 (length (now sums))) ⌝ }
     ensures { λ _. ⌜ now (line .exit) ≡ tabulate (length (now (line .entry))) (quartered 0 (now (sums .entry))) ⌝ }
 {
     let mut i = 0usize;
@@ -38,7 +38,7 @@ fn kept_line(sums: &[i16], line: &mut [i16])
 
 // line[k] = sums[2k] + sums[2k + 1], at n places from `from` on; those before it are filled.
 fn halved_part(sums: &[i16], from: usize, n: usize, line: &mut [i16])
-    requires { ⌜ Within 8190 (now sums) × (from + n ≤ length (now sums) / 2) × (from + n ≤ length (now line)) × (take from (now line) ≡ tabulate from (quartered 1 (now sums))) ⌝ }
+    requires { ⌜ AtMost 8190 (now sums) × (from + n ≤ length (now sums) / 2) × (from + n ≤ length (now line)) × (take from (now line) ≡ tabulate from (quartered 1 (now sums))) ⌝ }
     ensures { λ _. ⌜ take (from + n) (now (line .exit)) ≡ tabulate (from + n) (quartered 1 (now (sums .entry))) ⌝ }
 {
     let mut i = 0usize;
@@ -53,7 +53,7 @@ fn halved_part(sums: &[i16], from: usize, n: usize, line: &mut [i16])
 
 // line[k] = sums[2k] + sums[2k + 1]; of an odd number of columns the last is repeated. In parts of 16 the back end makes packed shifts of the loop.
 fn halved_line(sums: &[i16], line: &mut [i16])
-    requires { ⌜ Within 8190 (now sums) × (length (now line) ≡ columns 1 (length (now sums))) ⌝ }
+    requires { ⌜ AtMost 8190 (now sums) × (length (now line) ≡ columns 1 (length (now sums))) ⌝ }
     ensures { λ _. ⌜ now (line .exit) ≡ tabulate (length (now (line .entry))) (quartered 1 (now (sums .entry))) ⌝ }
 {
     let w = sums.len();
@@ -72,7 +72,7 @@ fn halved_line(sums: &[i16], line: &mut [i16])
 
 // Four times the average of the luma noises at each chroma column, from the sums of two rows: sub is 1 where the format halves the columns, else 0.
 fn quarters_line(sums: &[i16], sub: usize, line: &mut [i16])
-    requires { ⌜ (sub ≤ 1) × Within 8190 (now sums) × (length (now line) ≡ columns sub (length (now sums))) ⌝ }
+    requires { ⌜ (sub ≤ 1) × AtMost 8190 (now sums) × (length (now line) ≡ columns sub (length (now sums))) ⌝ }
     ensures { λ _. ⌜ now (line .exit) ≡ tabulate (length (now (line .entry))) (quartered sub (now (sums .entry))) ⌝ }
 {
     if sub == 0usize {

@@ -1,17 +1,18 @@
 // Sums over one plane of noise: of its squares, shifted and not, and of its products along a row.
 ghost use mathlib.Core.Path.{_≡_};
-ghost use Prim.Native.Nat.{_+_, _-_, _*_, _^_, _≤_, _<_};
+ghost use Prim.Native.Nat.{_+_, _-_, _*_, _≤_, _<_};
 ghost use lib.IntN.{_*ℤ_};
 ghost use lib.ListN.{length};
 ghost use Rattle.laws.specs.Sums.{sumTo};
-ghost use Rattle.noise.specs.Noise.{noise, place};
-ghost use Rattle.noise.specs.Lines.{at, product, Places, Plane, NoiseLine};
-ghost use Rattle.noise.specs.Grids.{sumOver, squared, noiseAt, Rows};
+ghost use Rattle.laws.specs.Limits.{sideLimit, sampleLimit};
+ghost use Rattle.noise.specs.Noise.{noise};
+ghost use Rattle.noise.specs.Lines.{at, product, Places, NoiseLine};
+ghost use Rattle.noise.specs.Seen.{seen, noiseOf, noiseAt, Seen, squared, RowSums, SumsOf};
 use crate::blocks::dot;
 use crate::line::blank_line;
 use crate::line::noise_line;
 use crate::line::shifted_line;
-use crate::rows::Grid;
+use frame::View;
 
 // Of a noise n: Σ (n >> shift)², Σ n² and Σ n × the noise `lag` columns on.
 pub struct PlaneSums {
@@ -53,8 +54,8 @@ fn row_sums(
     p: &mut [i16],
     q: &mut [i16],
 ) -> PlaneSums
-    requires { ⌜ Places (2 ^ 12) (now src) (now den) start stride (length (now p)) × (length (now p) ≤ 2 ^ 12) × (length (now q) ≡ length (now p)) × (lag ≤ length (now p)) × (shift < 16) ⌝ }
-    ensures { λ s. ⌜ (s .squares ≡ sumTo (λ c. squared shift (noise (now (src .entry)) (now (den .entry)) (start + c * stride))) (length (now (p .entry)))) × (s .energy ≡ sumTo (λ c. noise (now (src .entry)) (now (den .entry)) (start + c * stride) *ℤ noise (now (src .entry)) (now (den .entry)) (start + c * stride)) (length (now (p .entry)))) × (s .lagged ≡ sumTo (λ c. noise (now (src .entry)) (now (den .entry)) (start + c * stride) *ℤ noise (now (src .entry)) (now (den .entry)) (start + (c + lag) * stride)) (length (now (p .entry)) - lag)) ⌝ }
+    requires { ⌜ Places sampleLimit (now src) (now den) start stride (length (now p)) × (length (now p) ≤ sideLimit) × (length (now q) ≡ length (now p)) × (lag ≤ length (now p)) × (shift < 16) ⌝ }
+    ensures { λ s. ⌜ RowSums (λ c. noise (now (src .entry)) (now (den .entry)) (start + c * stride)) (length (now (p .entry))) lag shift s ⌝ }
 {
     noise_line(src, den, start, stride, p);
     let line = &p[..];
@@ -68,31 +69,28 @@ fn row_sums(
     }
 }
 
-// The sums over the rows of a grid. The lines p and q have a place for each column.
-pub fn grid_sums(
+// The sums over the rows of a view. The lines p and q have a place for each column.
+fn view_sums(
     src: &[u16],
     den: &[u16],
-    grid: Grid,
-    rows: usize,
+    view: View,
     lag: usize,
     shift: u32,
     p: &mut [i16],
     q: &mut [i16],
 ) -> PlaneSums
-    requires { ⌜ Rows (now src) (now den) grid rows (length (now p)) × (rows ≤ 2 ^ 12) × (length (now p) ≤ 2 ^ 12) × (length (now q) ≡ length (now p)) × (lag ≤ length (now p)) × (shift < 16) ⌝ }
-    ensures { λ s. ⌜ (s .squares ≡ sumOver rows (length (now (p .entry))) (λ r c. squared shift (noiseAt (now (src .entry)) (now (den .entry)) grid r c))) × (s .energy ≡ sumOver rows (length (now (p .entry))) (λ r c. noiseAt (now (src .entry)) (now (den .entry)) grid r c *ℤ noiseAt (now (src .entry)) (now (den .entry)) grid r c)) × (s .lagged ≡ sumOver rows (length (now (p .entry)) - lag) (λ r c. noiseAt (now (src .entry)) (now (den .entry)) grid r c *ℤ noiseAt (now (src .entry)) (now (den .entry)) grid r (c + lag))) ⌝ }
+    requires { ⌜ Seen view (now src) (now den) × (length (now p) ≡ view .width) × (length (now q) ≡ view .width) × (lag ≤ view .width) × (shift < 16) ⌝ }
+    ensures { λ s. ⌜ SumsOf (noiseAt (now (src .entry)) (now (den .entry)) view) (view .height) (view .width) lag shift s ⌝ }
 {
     let mut squares = 0i64;
     let mut energy = 0i64;
     let mut lagged = 0i64;
-    let mut r = 0usize;
-    while r < rows {
-        let start = grid.start + r * grid.step;
-        let row = row_sums(src, den, start, grid.stride, lag, shift, p, q);
+    for r in 0..view.height {
+        let start = view.start + r * view.step;
+        let row = row_sums(src, den, start, view.stride, lag, shift, p, q);
         squares = squares + row.squares;
         energy = energy + row.energy;
         lagged = lagged + row.lagged;
-        r += 1usize;
     }
     PlaneSums {
         squares,
@@ -101,17 +99,13 @@ pub fn grid_sums(
     }
 }
 
-// The sums over h rows, w wide.
-pub fn plane_sums(src: &[u16], den: &[u16], w: usize, h: usize, lag: usize, shift: u32) -> PlaneSums
-    requires { ⌜ Plane w h (now src) (now den) × (w ≤ 4096) × (h ≤ 4096) × (lag ≤ w) × (shift < 16) ⌝ }
-    ensures { λ s. ⌜ (s .squares ≡ sumOver h w (λ r c. squared shift (noise (now (src .entry)) (now (den .entry)) (place w r c)))) × (s .energy ≡ sumOver h w (λ r c. noise (now (src .entry)) (now (den .entry)) (place w r c) *ℤ noise (now (src .entry)) (now (den .entry)) (place w r c))) × (s .lagged ≡ sumOver h (w - lag) (λ r c. noise (now (src .entry)) (now (den .entry)) (place w r c) *ℤ noise (now (src .entry)) (now (den .entry)) (place w r (c + lag)))) ⌝ }
+// The sums over what a view shows of a plane.
+pub fn plane_sums(src: &[u16], den: &[u16], view: View, lag: usize, shift: u32) -> PlaneSums
+    requires { ⌜ Seen view (now src) (now den) × (lag ≤ view .width) × (shift < 16) ⌝ }
+    ensures { λ s. ⌜ SumsOf (noiseOf (seen view (now (src .entry)) (now (den .entry)))) (view .height) (view .width) lag shift s ⌝ }
 {
     let mut p = blank_line();
     let mut q = blank_line();
-    let grid = Grid {
-        start: 0usize,
-        step: w,
-        stride: 1usize,
-    };
-    grid_sums(src, den, grid, h, lag, shift, &mut p[..w], &mut q[..w])
+    let w = view.width;
+    view_sums(src, den, view, lag, shift, &mut p[..w], &mut q[..w])
 }

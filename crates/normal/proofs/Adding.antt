@@ -13,11 +13,11 @@ use mir.Val.{SFits, ofZ, toZ}
 use Rattle.laws.specs.Table.{tabulate}
 use Rattle.laws.proofs.Table.{length-tabulate, getD-tabulate}
 use Rattle.laws.proofs.Is.{Is, known}
+use Rattle.laws.proofs.Order.{lt-or-ge}
 use Rattle.noise.specs.Lines.{at}
 use Rattle.noise.proofs.LineSums.{entry, size}
 use Rattle.normal.proofs.StartSums.{kept}
 use Rattle.normal.proofs.Stored.{Stored, stored, part, part-length, part-at}
-use Rattle.normal.proofs.Order.{lt-or-ge}
 
 -- a list is the table of its entries
 pub table-is : (l : List ℤ) (n : ℕ) (f : ℕ → ℤ) → length l ≡ n → ((i : ℕ) → i < n → at l i ≡ f i) → l ≡ tabulate n f

@@ -14,9 +14,10 @@ use Rattle.noise.specs.Average.{Luma, quarters}
 use Rattle.noise.specs.Grids.{Rows, noiseAt}
 use Rattle.noise.specs.declared.rows.Grid.{Grid}
 use Rattle.noise.proofs.Lines.{noise-le}
-use Rattle.normal.specs.Normal.{Picture, side, neighbours, factors, neighbour, windowSum, entry, tapEntry, tapSquare}
+use Rattle.positions.specs.Counts.{side, neighbours, factors}
+use Rattle.positions.proofs.Counts.{factors-le, factors-rows}
+use Rattle.normal.specs.Normal.{Picture, neighbour, windowSum, entry, tapEntry, tapSquare}
 use Rattle.normal.specs.Calls.{Window, LumaOver}
-use Rattle.normal.proofs.Sizes.{factors-le, factors-rows}
 use Rattle.normal.proofs.AverageRows.{average-le}
 
 -- two pictures that are at most c and d in size where the window is

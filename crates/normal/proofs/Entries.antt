@@ -8,17 +8,18 @@ use native.Mathlib.Omega.{arith}
 use lib.Arith.{digits-div, digits-mod}
 use lib.IntN.{ℤ, _*ℤ_}
 use Rattle.laws.proofs.Sums.{sum-ext}
+use Rattle.laws.proofs.Order.{lt-or-ge}
 use Rattle.noise.specs.Grids.{Rows}
 use Rattle.noise.specs.declared.rows.Grid.{Grid}
-use Rattle.normal.specs.Normal.{Picture, side, factors, neighbour, windowSum, entry, square}
+use Rattle.positions.specs.Counts.{side, factors}
+use Rattle.positions.proofs.Counts.{factors-le}
+use Rattle.normal.specs.Normal.{Picture, neighbour, windowSum, entry, square}
 use Rattle.normal.specs.Calls.{Window}
 use Rattle.normal.specs.Starts.{startSum}
 use Rattle.normal.specs.Blocks.{pairAt}
 use Rattle.normal.specs.Rows.{Plot, PlaneSums, pairSum}
 use Rattle.normal.proofs.Squares.{square-ext}
 use Rattle.normal.proofs.Pairs.{rows-order, row-in, place-in, side-some}
-use Rattle.normal.proofs.Order.{lt-or-ge}
-use Rattle.normal.proofs.Sizes.{factors-le}
 use Rattle.normal.proofs.Bounds.{window-swap}
 
 -- the window's place y + lag, from the window's first

@@ -12,13 +12,13 @@ use lib.ListN.{length}
 use Rattle.laws.specs.Sums.{sumTo}
 use Rattle.laws.proofs.Sums.{sum-more, sum-bound}
 use Rattle.laws.proofs.Whole.{abs-add}
+use Rattle.laws.proofs.Order.{lt-or-ge}
 use Rattle.noise.specs.Grids.{noiseAt}
 use Rattle.noise.specs.declared.rows.Grid.{Grid}
 use Rattle.normal.specs.Normal.{Picture}
 use Rattle.normal.specs.Starts.{startSum}
 use Rattle.normal.specs.Blocks.{blockAt, ifPassed, Room, Added}
 use Rattle.normal.specs.Rows.{Plot, RowTables, PlaneSums, Zeros, pairSum}
-use Rattle.normal.proofs.Order.{lt-or-ge}
 use Rattle.normal.proofs.Squares.{quotient, remainder}
 use Rattle.normal.proofs.Passing.{passed-before, passed-after, passed-now}
 use Rattle.normal.proofs.RowLines.{rows-bound}

@@ -1,4 +1,3 @@
-pub mod Order
 pub mod Stored
 pub mod StartSums
 pub mod Squares

@@ -1,23 +1,16 @@
--- How many neighbours a sample has, how much room their sums take at lags up to 3, and zeros to begin with. Assumes nothing.
+-- How much room the sums take at lags up to 3, and zeros to begin with. Assumes nothing.
 use mathlib.Core.Path.{_≡_, refl, _∙_}
 use mathlib.Core.List.{List}
 use Prim.Native.Nat.{ℕ, zero, suc, _+_, _*_, _≤_}
-use native.Mathlib.Nat.{lt-of-lt-of-le, mul-add, mul-comm, mul-le-mul}
+use native.Mathlib.Nat.{lt-of-lt-of-le, mul-le-mul}
 use native.Mathlib.Omega.{arith}
 use lib.IntN.{ℤ, pos}
 use lib.ListN.{length, getD, take, replicate}
 use lib.Seq.{getD-take, length-take-le}
 use Rattle.laws.specs.Table.{tabulate}
 use Rattle.noise.proofs.LineSums.{entry, size}
-use Rattle.normal.specs.Normal.{side, factors}
+use Rattle.positions.specs.Counts.{side}
 use Rattle.normal.specs.Rows.{Zeros}
-
--- all neighbours, with the sample, lie in lag + 1 rows of the square: whole rows, and those up to the sample in its own
-pub factors-le : (lag : ℕ) → factors lag ≤ (lag + 1) * side lag
-factors-le lag = omega (arith, mul-add (lag + 1) (2 * lag) 1, mul-comm (2 * lag) (lag + 1))
-
-pub factors-rows : (lag : ℕ) → factors lag ≡ lag * side lag + (lag + 1)
-factors-rows lag = omega (arith, mul-add lag (2 * lag) 1, mul-add (2 * lag) lag 1, mul-comm lag (2 * lag))
 
 -- ---- at lags up to 3
 module _ {lag : ℕ} (h : lag ≤ 3) where
@@ -32,12 +25,6 @@ module _ {lag : ℕ} (h : lag ≤ 3) where
 
   pub all-le : (lag + 1) * (lag + 1) * (side lag * side lag) ≤ 784
   all-le = mul-le-mul (mul-le-mul starts-le starts-le) (mul-le-mul side-le side-le)
-
-  pub neighbours-le : 2 * lag * (lag + 1) ≤ 24
-  neighbours-le = mul-le-mul double starts-le
-    where
-      double : 2 * lag ≤ 6
-      double = omega arith
 
 -- ---- zeros
 zero-at : (n i : ℕ) → getD (replicate n (pos 0)) i (pos 0) ≡ pos 0

@@ -10,21 +10,22 @@ use lib.IntN.{ℤ, natAbs, _+ℤ_}
 use lib.ListN.{length, take, drop}
 use Rattle.laws.specs.Table.{tabulate}
 use Rattle.laws.proofs.Table.{tabulate-same}
+use Rattle.laws.proofs.Order.{lt-or-ge}
 use Rattle.noise.specs.Lines.{at}
 use Rattle.noise.specs.Grids.{noiseAt}
 use Rattle.noise.specs.declared.rows.Grid.{Grid}
 use Rattle.noise.proofs.LineSums.{entry, size}
-use Rattle.normal.specs.Normal.{Picture, side, factors}
+use Rattle.positions.specs.Counts.{side, factors}
+use Rattle.positions.proofs.Counts.{factors-le, factors-rows}
+use Rattle.normal.specs.Normal.{Picture}
 use Rattle.normal.specs.Starts.{startSum, Pair}
 use Rattle.normal.specs.Taps.{TapRoom, TapRow}
-use Rattle.normal.proofs.Order.{lt-or-ge}
 use Rattle.normal.proofs.Stored.{part, part-length, part-at}
 use Rattle.normal.proofs.Squares.{row-end}
 use Rattle.normal.proofs.StartSums.{start-ext}
 use Rattle.normal.proofs.Adding.{Adding, adding-starts, adding-part, adding-ends}
 use Rattle.normal.proofs.RowLines.{line-small}
 use Rattle.normal.proofs.Entries.{window-plot}
-use Rattle.normal.proofs.Sizes.{factors-le, factors-rows}
 
 -- what is added for neighbour i
 abbrev pub gainOf : Picture → ℕ → ℕ → ℕ → List ℤ → ℕ → ℤ

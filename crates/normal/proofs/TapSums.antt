@@ -20,7 +20,9 @@ use Rattle.noise.specs.Average.{Luma, quarters}
 use Rattle.noise.specs.declared.rows.Grid.{Grid}
 use Rattle.noise.proofs.Lines.{noise-le}
 use Rattle.noise.proofs.LineSums.{entry, size, rows-turn}
-use Rattle.normal.specs.Normal.{Picture, side, factors, windowSum, tapEntry, tapSquare}
+use Rattle.positions.specs.Counts.{side, factors}
+use Rattle.positions.proofs.Counts.{factors-le}
+use Rattle.normal.specs.Normal.{Picture, windowSum, tapEntry, tapSquare}
 use Rattle.normal.specs.Calls.{Window, LumaOver, Planes, TapSums}
 use Rattle.normal.specs.Starts.{startSum}
 use Rattle.normal.specs.Rows.{Zeros}
@@ -28,7 +30,6 @@ use Rattle.normal.specs.Taps.{TapRow}
 use Rattle.normal.proofs.StartSums.{start-ext, start-bound}
 use Rattle.normal.proofs.Adding.{table-is}
 use Rattle.normal.proofs.Entries.{back}
-use Rattle.normal.proofs.Sizes.{factors-le}
 use Rattle.normal.proofs.TapRows.{gainOf}
 use Rattle.normal.proofs.AverageRows.{average-le, averages-small}
 

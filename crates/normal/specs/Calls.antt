@@ -9,7 +9,8 @@ use Rattle.noise.specs.Average.{Luma, subX, subY, quarters}
 use Rattle.noise.specs.Quarters.{columns}
 use Rattle.noise.specs.Grids.{Rows, noiseAt}
 use Rattle.noise.specs.declared.rows.Grid.{Grid}
-use Rattle.normal.specs.Normal.{factors, tapEntry, tapSquare}
+use Rattle.positions.specs.Counts.{factors}
+use Rattle.normal.specs.Normal.{tapEntry, tapSquare}
 
 -- a plane of h rows and w columns that holds a window
 pub record Window (w h lag : ℕ) : Type 0 where

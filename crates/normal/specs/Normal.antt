@@ -4,20 +4,11 @@ use Prim.Native.Nat.{ℕ, _+_, _-_, _*_, _/_, _%_}
 use lib.IntN.{ℤ, _*ℤ_}
 use Rattle.laws.specs.Sums.{span}
 use Rattle.laws.specs.Table.{tabulate}
+use Rattle.positions.specs.Counts.{side}
 
 -- a number for each row y and column x
 abbrev pub Picture : Type 0
 Picture = ℕ → ℕ → ℤ
-
--- "rows −lag to 0, columns −lag to lag, ending before the sample itself; 2×lag×(lag+1) of them": the places of a row, the neighbours, and the neighbours with the sample
-abbrev pub side : ℕ → ℕ
-side lag = 2 * lag + 1
-
-abbrev pub neighbours : ℕ → ℕ
-neighbours lag = 2 * lag * (lag + 1)
-
-abbrev pub factors : ℕ → ℕ
-factors lag = neighbours lag + 1
 
 -- neighbour i of each place, counted along the rows from the first, which is lag rows above and lag columns to the left. The sample itself is neighbour 2×lag×(lag+1)
 abbrev pub neighbour : Picture → ℕ → ℕ → Picture

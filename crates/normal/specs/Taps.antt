@@ -7,7 +7,7 @@ use lib.ListN.{length}
 use Rattle.noise.specs.Lines.{at}
 use Rattle.noise.specs.Grids.{Rows, noiseAt}
 use Rattle.noise.specs.declared.rows.Grid.{Grid}
-use Rattle.normal.specs.Normal.{side, factors}
+use Rattle.positions.specs.Counts.{side, factors}
 use Rattle.normal.specs.Calls.{Window}
 use Rattle.normal.specs.Starts.{startSum, Small, Pair}
 

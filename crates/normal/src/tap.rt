@@ -8,7 +8,7 @@ ghost use Rattle.noise.specs.Lines.{at};
 ghost use Rattle.noise.specs.Grids.{noiseAt};
 ghost use Rattle.noise.specs.Average.{quarters};
 ghost use Rattle.noise.specs.Quarters.{luma};
-ghost use Rattle.normal.specs.Normal.{side, factors};
+ghost use Rattle.positions.specs.Counts.{side, factors};
 ghost use Rattle.normal.specs.Starts.{startSum};
 ghost use Rattle.normal.specs.Rows.{Zeros};
 ghost use Rattle.normal.specs.Calls.{LumaOver, Planes, TapSums};

@@ -1,6 +1,6 @@
 -- What `ar_positions` answers, and how its lists fill: the neighbours' rows and columns by number, and zeros after them. Assumes nothing.
 use mathlib.Core.Path.{_≡_, sym}
-use mathlib.Core.List.{List, [], _++_, append-assoc}
+use mathlib.Core.List.{List, _++_, append-assoc}
 use Prim.Native.Nat.{ℕ, suc, _+_, _-_, _≤_, _<_}
 use native.Mathlib.Numerals.{add-one}
 use native.Mathlib.Omega.{arith}
@@ -10,9 +10,9 @@ use lib.ListN.{set, replicate}
 use lib.Seq.{set-at}
 use Rattle.laws.specs.Table.{tabulate}
 use Rattle.laws.proofs.Table.{length-tabulate, map-tabulate}
-use Rattle.normal.specs.Normal.{neighbours}
-use Rattle.positions.specs.Positions.{refusalOf, positionsOf, answered}
-use Rattle.positions.proofs.Places.{placeAt}
+use Rattle.positions.specs.Counts.{neighbours}
+use Rattle.positions.specs.Positions.{refusalOf, positionsOf, refused}
+use Rattle.positions.proofs.Places.{offsetAt}
 use Rattle.positions.proofs.Steps.{positions-are}
 
 -- the first n of f, and zeros
@@ -25,10 +25,10 @@ store f n v h e =
     rw (room, set-at (tabulate n f) (pos 0) (replicate (24 - suc n) (pos 0)) v n (length-tabulate n f), e, add-one n, append-assoc)
 
 abbrev rowOf : ℕ → ℕ → ℤ
-rowOf lag i = placeAt lag i .0
+rowOf lag i = offsetAt lag i .0
 
 abbrev columnOf : ℕ → ℕ → ℤ
-columnOf lag i = placeAt lag i .1
+columnOf lag i = offsetAt lag i .1
 
 -- after i neighbours
 pub record Filling (lag i : ℕ) (rows columns : List ℤ) : Type 0 where
@@ -37,7 +37,7 @@ pub record Filling (lag i : ℕ) (rows columns : List ℤ) : Type 0 where
   pub columns-are : columns ≡ filled (columnOf lag) i
 
 pub filling-turn : {lag i : ℕ} {rows columns : List ℤ} (dr dc : ℤ) → i < neighbours lag → neighbours lag ≤ 24 → Filling lag i rows columns
-    → dr ≡ placeAt lag i .0 → dc ≡ placeAt lag i .1 → Filling lag (i + 1) (set rows i dr) (set columns i dc)
+    → dr ≡ offsetAt lag i .0 → dc ≡ offsetAt lag i .1 → Filling lag (i + 1) (set rows i dr) (set columns i dc)
 filling-turn {lag} {i} dr dc h l F er ec =
     record {
       some = omega arith;
@@ -46,9 +46,9 @@ filling-turn {lag} {i} dr dc h l F er ec =
     }
 
 -- ---- the answer
-pub refused : (lag : ℕ) → 3 < lag → positionsOf lag ≡ answered 7 []
+pub refused-is : (lag : ℕ) → 3 < lag → positionsOf lag ≡ refused 7
 unfolding positionsOf refusalOf
-refused lag h = rw (lt-leb lag 3 h)
+refused-is lag h = rw (lt-leb lag 3 h)
 
 accepted-is : (lag : ℕ) → lag ≤ 3
     → positionsOf lag ≡ record { refusal = 0; count = neighbours lag; rows = filled (rowOf lag) (neighbours lag); columns = filled (columnOf lag) (neighbours lag) }

@@ -1,44 +1,38 @@
--- Coefficient i belongs to neighbour i, in the normal equations (`row-is`) as in the specification's filter (`filter-is`), wherever all neighbours exist; and how many coefficients there are. Assumes nothing.
+-- Coefficient i belongs to neighbour i in the specification's filter (`filter-sum`), wherever all neighbours exist; and how many coefficients there are. Assumes nothing.
 use mathlib.Core.Path.{_≡_, refl, sym, ap, _∙_}
-use mathlib.Core.List.{List, [], _∷_, _++_, map}
+use mathlib.Core.List.{List, [], _∷_, _++_}
 use Prim.Native.Nat.{ℕ, zero, suc, _+_, _-_, _*_, _/_, _%_, _≤_, _<_}
 use native.Mathlib.Nat.{add-zero, zero-add}
 use native.Mathlib.Omega.{arith}
 use borrow.Author.Tests.{lt-ltb}
-use lib.IntN.{ℤ, pos, natAbs, _+ℤ_, _-ℤ_, _*ℤ_, +ℤ-idl, +ℤ-idr, +ℤ-assoc}
+use lib.IntN.{ℤ, pos, _+ℤ_, _-ℤ_, _*ℤ_, +ℤ-idl, +ℤ-idr, +ℤ-assoc}
 use lib.ListN.{length, getD}
 use Rattle.laws.specs.Sums.{sumTo}
 use Rattle.laws.specs.Table.{tabulate}
 use Rattle.laws.proofs.Sums.{sum-ext}
-use Rattle.laws.proofs.Table.{length-tabulate, getD-tabulate, map-tabulate, tabulate-same}
-use Rattle.normal.specs.Normal.{Picture, side, neighbours, neighbour}
-use Rattle.normal.proofs.Sizes.{neighbours-le}
+use Rattle.laws.proofs.Table.{length-tabulate, getD-tabulate}
+use Rattle.positions.specs.Counts.{side, neighbours}
 use Rattle.positions.specs.Text.{Delta, walk, coefficientOf, filtered, numPosLuma, numPosChroma}
-use Rattle.positions.specs.Positions.{positions, offsetBy}
+use Rattle.positions.specs.Positions.{positions}
 use Rattle.positions.specs.Neighbours.{sample}
+use Rattle.positions.proofs.Counts.{neighbours-le}
 use Rattle.positions.proofs.Offsets.{offset-add}
-use Rattle.positions.proofs.Places.{placeAt}
+use Rattle.positions.proofs.Places.{offsetAt}
 use Rattle.positions.proofs.Steps.{positions-are}
 use Rattle.positions.proofs.Text.{walk-is}
 use Rattle.positions.proofs.Neighbours.{walk-neighbours}
 
 -- ---- place i of the list
 pub position-at : (lag i : ℕ) → i < neighbours lag → getD (positions lag) i sample ≡ (pos (i / (2 * lag + 1)) -ℤ pos lag, pos (i % (2 * lag + 1)) -ℤ pos lag)
-position-at lag i h = rw (positions-are lag) (getD-tabulate (neighbours lag) (placeAt lag) i sample h)
+position-at lag i h = rw (positions-are lag) (getD-tabulate (neighbours lag) (offsetAt lag) i sample h)
 
 module _ (lag y x : ℕ) (rows : lag ≤ y) (columns : lag ≤ x) where
-  -- the row and the column of neighbour i, counted from the picture's first
-  row-at : (i : ℕ) → pos y +ℤ placeAt lag i .0 ≡ pos (y - lag + i / side lag)
+  -- the row and the column of neighbour i, counted from the first ones
+  pub row-at : (i : ℕ) → pos y +ℤ offsetAt lag i .0 ≡ pos (y - lag + i / side lag)
   row-at i = offset-add y (i / side lag) lag rows
 
-  column-at : (i : ℕ) → pos x +ℤ placeAt lag i .1 ≡ pos (x - lag + i % side lag)
+  pub column-at : (i : ℕ) → pos x +ℤ offsetAt lag i .1 ≡ pos (x - lag + i % side lag)
   column-at i = offset-add x (i % side lag) lag columns
-
-  -- the Rust's row of noises at a place is the neighbours that the normal equations multiply
-  pub row-is : (f : Picture) → map (λ p. offsetBy f p y x) (positions lag) ≡ tabulate (neighbours lag) (λ i. neighbour f lag i y x)
-  row-is f =
-      rw (positions-are lag, map-tabulate)
-      (tabulate-same (neighbours lag) (λ i. offsetBy f (placeAt lag i) y x) (λ i. neighbour f lag i y x) (λ i l t. f (natAbs (row-at i t)) (natAbs (column-at i t))))
 
   -- ---- the specification's filter
   module _ (plus128 : ℕ → ℕ) (grain : ℤ → ℤ → ℤ) where
@@ -59,12 +53,12 @@ module _ (lag y x : ℕ) (rows : lag ≤ y) (columns : lag ≤ x) where
         filtered-append 0 (tabulate m g) (g m ∷ [])
         ∙ rw (filtered-table m g, length-tabulate m g, zero-add m, +ℤ-idr)
 
-    pub filter-is : (f : Picture) → ((r q : ℕ) → grain (pos r) (pos q) ≡ f r q)
-        → filtered plus128 grain y x 0 (walk lag) ≡ sumTo (λ i. coefficientOf (plus128 i) *ℤ neighbour f lag i y x) (numPosLuma lag)
-    filter-is f same =
+    pub filter-sum : filtered plus128 grain y x 0 (walk lag)
+        ≡ sumTo (λ i. coefficientOf (plus128 i) *ℤ grain (pos (y - lag + i / side lag)) (pos (x - lag + i % side lag))) (numPosLuma lag)
+    filter-sum =
         ap (along 0) (walk-is lag)
-        ∙ filtered-table (neighbours lag) (placeAt lag)
-        ∙ sum-ext _ _ (neighbours lag) (λ i l. ap (λ (z : ℤ). coefficientOf (plus128 i) *ℤ z) ((λ t. grain (row-at i t) (column-at i t)) ∙ same (y - lag + i / side lag) (x - lag + i % side lag)))
+        ∙ filtered-table (neighbours lag) (offsetAt lag)
+        ∙ sum-ext _ _ (neighbours lag) (λ i l t. coefficientOf (plus128 i) *ℤ grain (row-at i t) (column-at i t))
 
 -- ---- how many
 pub luma-number : (lag : ℕ) → length (walk lag) ≡ numPosLuma lag

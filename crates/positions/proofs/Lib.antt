@@ -1,7 +1,7 @@
 -- The neighbours of a sample: by number, as the Rust's loops push them and as the specification's walk visits them; that these are the scope's, and that coefficient i belongs to neighbour i.
+pub mod Counts
 mod Offsets
-mod Members
-mod Places
+pub mod Places
 pub mod Steps
 pub mod Text
 mod Answers

@@ -9,7 +9,7 @@ use borrow.Author.Tests.{lt-ltb, le-ltb}
 use lib.Dec.{T, eqb, eqb·suc-zero, lt→ltb, ltb→lt, leb→le, le→leb}
 use lib.IntN.{ℤ, pos, negsuc, negℤ, natAbs, _+ℤ_, _-ℤ_, +ℤ-assoc, +ℤ-comm, +ℤ-invr, -ℤ-+ℤ-cancel, +ℤ-negℤ-cancel}
 use lib.Signed.{ltZ, leZ, nonNeg, _<ℤ_, _≤ℤ_, ≤ℤ-refl, clashℤ, pos-natAbs}
-use Rattle.normal.proofs.Order.{lt-or-ge}
+use Rattle.laws.proofs.Order.{lt-or-ge}
 
 -- ---- the sign
 pub below : (k l : ℕ) → k < l → pos k -ℤ pos l ≡ negsuc (l - suc k)

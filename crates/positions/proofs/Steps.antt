@@ -10,10 +10,10 @@ use lib.IntN.{ℤ, pos, _-ℤ_}
 use Rattle.laws.specs.Loop.{loop}
 use Rattle.laws.specs.Table.{tabulate}
 use Rattle.laws.proofs.Loop.{loop-none, loop-more, loop-fixed}
-use Rattle.normal.specs.Normal.{side, neighbours}
+use Rattle.positions.specs.Counts.{side, neighbours}
 use Rattle.positions.specs.Positions.{Offset, Along, stops, body, turn, row, positions}
 use Rattle.positions.proofs.Offsets.{is-zero, is-not-zero}
-use Rattle.positions.proofs.Places.{column, placeAt, rows-then, places-then}
+use Rattle.positions.proofs.Places.{column, offsetAt, rows-then, places-then}
 
 loop-suc : {S : Type 0} (k : ℕ) (f : ℕ → S → S) (s : S) → loop 0 (suc k) f s ≡ f k (loop 0 k f s)
 loop-suc k f s = ap (λ (n : ℕ). loop 0 n f s) (sym (add-one k)) ∙ loop-more 0 k f s zero-le
@@ -56,16 +56,16 @@ row-of-sample lag out = ap (λ (s : Along). s .out) (loop-fixed 0 (suc lag) (sid
         ∙ ap (step lag) (pushed lag (pos lag -ℤ pos lag) out lag (λ j l. rw (is-zero lag, is-not-zero j lag l)))
         ∙ rw (is-zero lag)
 
-rows-above : (lag k : ℕ) → k ≤ lag → loop 0 k (λ k. row lag (pos k -ℤ pos lag)) [] ≡ tabulate (k * side lag) (placeAt lag)
+rows-above : (lag k : ℕ) → k ≤ lag → loop 0 k (λ k. row lag (pos k -ℤ pos lag)) [] ≡ tabulate (k * side lag) (offsetAt lag)
 rows-above lag zero h = loop-none 0 0 (λ k. row lag (pos k -ℤ pos lag)) [] zero-le ∙ rw (zero-mul (side lag))
 rows-above lag (suc k) h =
     loop-suc k (λ k. row lag (pos k -ℤ pos lag)) []
-    ∙ rw (rows-above lag k (le-of-lt h), row-above lag k (tabulate (k * side lag) (placeAt lag)) h)
+    ∙ rw (rows-above lag k (le-of-lt h), row-above lag k (tabulate (k * side lag) (offsetAt lag)) h)
     (rows-then lag k)
 
-pub positions-are : (lag : ℕ) → positions lag ≡ tabulate (neighbours lag) (placeAt lag)
+pub positions-are : (lag : ℕ) → positions lag ≡ tabulate (neighbours lag) (offsetAt lag)
 unfolding positions
 positions-are lag =
     loop-more 0 lag (λ k. row lag (pos k -ℤ pos lag)) [] zero-le
-    ∙ rw (rows-above lag lag (le-refl lag), row-of-sample lag (tabulate (lag * side lag) (placeAt lag)))
+    ∙ rw (rows-above lag lag (le-refl lag), row-of-sample lag (tabulate (lag * side lag) (offsetAt lag)))
     (places-then lag)

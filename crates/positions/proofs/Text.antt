@@ -8,12 +8,12 @@ use native.Mathlib.Numerals.{add-one}
 use native.Mathlib.Omega.{arith}
 use lib.IntN.{ℤ, pos, _-ℤ_}
 use Rattle.laws.specs.Table.{tabulate}
-use Rattle.laws.proofs.Table.{map-tabulate}
-use Rattle.normal.specs.Normal.{side, neighbours}
+use Rattle.laws.proofs.Table.{map-tabulate, tabulate-then}
+use Rattle.positions.specs.Counts.{side, neighbours}
 use Rattle.positions.specs.Text.{Delta, fromMinus, isSample, upToSample, walkRow, walkRows, walk}
 use Rattle.positions.specs.Positions.{positions}
 use Rattle.positions.proofs.Offsets.{is-zero, is-not-zero}
-use Rattle.positions.proofs.Places.{column, placeAt, tabulate-then, rows-then, places-then}
+use Rattle.positions.proofs.Places.{column, offsetAt, rows-then, places-then}
 use Rattle.positions.proofs.Steps.{positions-are}
 
 -- places that are not the sample are all visited, before what follows them
@@ -68,12 +68,12 @@ rows-more : (lag k : ℕ) → walkRows lag (fromMinus lag (suc k)) ≡ walkRows 
 unfolding walkRows
 rows-more lag k = rows-append lag (fromMinus lag k) ((pos k -ℤ pos lag) ∷ []) ∙ rw (append-nil (walkRow lag (pos k -ℤ pos lag)))
 
-rows-above : (lag k : ℕ) → k ≤ lag → walkRows lag (fromMinus lag k) ≡ tabulate (k * side lag) (placeAt lag)
+rows-above : (lag k : ℕ) → k ≤ lag → walkRows lag (fromMinus lag k) ≡ tabulate (k * side lag) (offsetAt lag)
 unfolding walkRows
 rows-above lag zero h = rw (zero-mul (side lag))
 rows-above lag (suc k) h = rows-more lag k ∙ rw (rows-above lag k (le-of-lt h), row-above lag k h) (rows-then lag k)
 
-pub walk-is : (lag : ℕ) → walk lag ≡ tabulate (neighbours lag) (placeAt lag)
+pub walk-is : (lag : ℕ) → walk lag ≡ tabulate (neighbours lag) (offsetAt lag)
 unfolding walk
 walk-is lag =
     ap (λ (n : ℕ). walkRows lag (fromMinus lag n)) (add-one lag)

@@ -3,11 +3,10 @@ use mathlib.Core.Bool.{Bool, true, false, cond, _&&_}
 use mathlib.Core.List.{List, [], _∷_, _++_, map}
 use Prim.Native.Nat.{ℕ, _+_, _-_, _*_}
 use lib.Dec.{eqb}
-use lib.IntN.{ℤ, pos, natAbs, _+ℤ_, _-ℤ_}
+use lib.IntN.{ℤ, pos, natAbs, _-ℤ_}
 use lib.ListN.{length, replicate}
 use Rattle.laws.specs.Loop.{loop}
 use Rattle.frame.specs.Questions.{firstNo, accepted, lagKnown}
-use Rattle.normal.specs.Normal.{Picture}
 use Rattle.positions.specs.declared.Positions.{Positions}
 
 -- ---- the Rust's steps
@@ -40,10 +39,6 @@ row l dr out = loop 0 (2 * l + 1) (turn l dr) (record { out = out; ended = false
 unfoldable pub positions : ℕ → List Offset
 positions lag = loop 0 (lag + 1) (λ k. row lag (pos k -ℤ pos lag)) []
 
--- `noise[(y as i32 + dr) as usize * w + (x as i32 + dc) as usize]`, of a picture by rows and columns
-abbrev pub offsetBy : Picture → Offset → Picture
-offsetBy f (dr, dc) y x = f (natAbs (pos y +ℤ dr)) (natAbs (pos x +ℤ dc))
-
 -- ---- the call
 
 -- "Is a fit's lag at most 3? No: 7."
@@ -54,11 +49,14 @@ refusalOf lag = firstNo (lagKnown lag ∷ [])
 abbrev pub padded : List ℤ → List ℤ
 padded zs = zs ++ replicate (24 - length zs) (pos 0)
 
--- a list of places with a refusal's number
-abbrev pub answered : ℕ → List Offset → Positions
-answered refusal places =
-    record { refusal = refusal; count = length places; rows = padded (map (λ p. p .0) places); columns = padded (map (λ p. p .1) places) }
+-- an accepted call's: a list of places
+abbrev pub listed : List Offset → Positions
+listed places =
+    record { refusal = 0; count = length places; rows = padded (map (λ p. p .0) places); columns = padded (map (λ p. p .1) places) }
 
 -- "A refused call returns its number, with every other field of the answer zero."
+abbrev pub refused : ℕ → Positions
+refused n = record { refusal = n; count = 0; rows = replicate 24 (pos 0); columns = replicate 24 (pos 0) }
+
 unfoldable pub positionsOf : ℕ → Positions
-positionsOf lag = answered (refusalOf lag) (accepted (refusalOf lag) (positions lag) [])
+positionsOf lag = let n = refusalOf lag in accepted n (listed (positions lag)) (refused n)

@@ -4,7 +4,7 @@ use mathlib.Core.List.{List}
 use Prim.Native.Nat.{ℕ, _-_}
 use Rattle.frame.specs.declared.Shape.{Shape}
 use Rattle.frame.specs.Questions.{accepted}
-use Rattle.frame.specs.Calls.{deepPlaneRefusal, frameRefusal}
+use Rattle.frame.specs.Calls.{pairRefusal, frameRefusal}
 use Rattle.frame.proofs.Refusal.{refused, granted}
 use Rattle.profile.specs.Steps.{planeSigma16}
 use Rattle.profile.specs.Answers.{sigmaAnswer, lumaOf, chromaOf, noProfile, lumaProfile, chromaProfile, noEstimate, estimateAnswer}
@@ -17,14 +17,14 @@ module _ (w h depth : ℕ) (a b : List ℕ) where
   abbrev sigmaOf : ℕ → ℕ → Sigma
   sigmaOf n v = record { refusal = n; sigma16 = v }
 
-  pub sigma-refused : {n : ℕ} → n ≡ deepPlaneRefusal w h depth a b → (n ≡ 0 → ⊥) → sigmaOf n 0 ≡ sigmaAnswer w h depth a b
+  pub sigma-refused : {n : ℕ} → n ≡ pairRefusal w h depth a b → (n ≡ 0 → ⊥) → sigmaOf n 0 ≡ sigmaAnswer w h depth a b
   unfolding sigmaAnswer
-  sigma-refused e z = λ i. sigmaOf (e i) (sym (refused (deepPlaneRefusal w h depth a b) (planeSigma16 (depth - 8) a b) 0 (λ d. z (e ∙ d))) i)
+  sigma-refused e z = λ i. sigmaOf (e i) (sym (refused (pairRefusal w h depth a b) (planeSigma16 (depth - 8) a b) 0 (λ d. z (e ∙ d))) i)
 
-  pub sigma-accepted : {v : ℕ} → deepPlaneRefusal w h depth a b ≡ 0 → v ≡ planeSigma16 (depth - 8) a b → sigmaOf 0 v ≡ sigmaAnswer w h depth a b
+  pub sigma-accepted : {v : ℕ} → pairRefusal w h depth a b ≡ 0 → v ≡ planeSigma16 (depth - 8) a b → sigmaOf 0 v ≡ sigmaAnswer w h depth a b
   unfolding sigmaAnswer
   sigma-accepted e p =
-      λ i. sigmaOf (sym e i) ((p ∙ sym (granted (deepPlaneRefusal w h depth a b) (planeSigma16 (depth - 8) a b) 0 e)) i)
+      λ i. sigmaOf (sym e i) ((p ∙ sym (granted (pairRefusal w h depth a b) (planeSigma16 (depth - 8) a b) 0 e)) i)
 
 module _ (s : Shape) (y cb cr y′ cb′ cr′ : List ℕ) where
   abbrev number : ℕ

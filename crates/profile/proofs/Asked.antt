@@ -5,9 +5,12 @@ use mathlib.Core.List.{List, [], _∷_, _++_}
 use Prim.Native.Nat.{ℕ, _*_, _^_, _≤_}
 use native.Mathlib.Nat.{le-trans, le-of-eq}
 use lib.ListN.{length}
+use Rattle.laws.specs.Limits.{sideLimit}
+use Rattle.frame.specs.Planes.{samplesOf}
 use Rattle.frame.specs.declared.Shape.{Shape}
-use Rattle.frame.specs.Questions.{Question, firstNo, samplesLow, frameFilled, each, allLow, low, lumaSamples, chromaSamples, sideLimit}
-use Rattle.frame.specs.Calls.{deepPlaneQuestions, deepPlaneRefusal, shapeQuestions, frameQuestions, copyQuestions, frameRefusal}
+use Rattle.frame.specs.declared.view.Component.the-variants.{Y, CbCr}
+use Rattle.frame.specs.Questions.{Question, firstNo, samplesLow, frameFilled, each, allLow, low}
+use Rattle.frame.specs.Calls.{pairNumbers, pairRefusal, shapeNumbers, frameNumbers, copyQuestions, frameRefusal}
 use Rattle.frame.proofs.Refusal.{numbered, passed, parts, first-no-append, stopped}
 use Rattle.frame.proofs.Facts.{is-small, is-depth, is-known, are-each, Known}
 use Rattle.frame.proofs.Size.{chroma-samples-le, area-le}
@@ -19,22 +22,22 @@ last-question qs h e q p = first-no-append qs (q ∷ []) h ∙ rw (e, p)
 
 -- ---- a plane
 
-module _ (w h depth : ℕ) (a b : List ℕ) {n : ℕ} (e : n ≡ firstNo (deepPlaneQuestions w h depth (length a ∷ length b ∷ []))) where
-  pub plane-stopped : (n ≡ 0 → ⊥) → n ≡ deepPlaneRefusal w h depth a b
-  unfolding deepPlaneRefusal deepPlaneQuestions
-  plane-stopped z = stopped (deepPlaneQuestions w h depth (length a ∷ length b ∷ [])) refl e (samplesLow depth (a ∷ b ∷ []) ∷ []) z
+module _ (w h depth : ℕ) (a b : List ℕ) {n : ℕ} (e : n ≡ firstNo (pairNumbers w h depth (length a ∷ length b ∷ []))) where
+  pub plane-stopped : (n ≡ 0 → ⊥) → n ≡ pairRefusal w h depth a b
+  unfolding pairRefusal pairNumbers
+  plane-stopped z = stopped (pairNumbers w h depth (length a ∷ length b ∷ [])) refl e (samplesLow depth (a ∷ b ∷ []) ∷ []) z
 
-  pub plane-asked : n ≡ 0 → {r : Bool} → r ≡ bothLow depth a b → deepPlaneRefusal w h depth a b ≡ cond r 0 6
-  unfolding deepPlaneRefusal deepPlaneQuestions allLow
+  pub plane-asked : n ≡ 0 → {r : Bool} → r ≡ bothLow depth a b → pairRefusal w h depth a b ≡ cond r 0 6
+  unfolding pairRefusal pairNumbers allLow
   plane-asked z p =
-      last-question (deepPlaneQuestions w h depth (length a ∷ length b ∷ [])) refl (sym e ∙ z) (samplesLow depth (a ∷ b ∷ []))
+      last-question (pairNumbers w h depth (length a ∷ length b ∷ [])) refl (sym e ∙ z) (samplesLow depth (a ∷ b ∷ []))
       (p ∙ ap (λ (t : Bool). low depth a && t) (sym (and-true (low depth b))))
 
   pub plane-pair : n ≡ 0 → Pair (2 ^ 24) depth a b
-  unfolding deepPlaneQuestions
+  unfolding pairNumbers
   plane-pair z =
       let lengths = length a ∷ length b ∷ [] in
-      let p = passed (deepPlaneQuestions w h depth lengths) refl (sym e ∙ z) in
+      let p = passed (pairNumbers w h depth lengths) refl (sym e ∙ z) in
       let s = is-small w h (p .0) in
       let d = is-depth depth (p .1 .0) in
       let l = are-each (w * h) lengths (p .1 .1 .0) in
@@ -70,29 +73,29 @@ module _ (s : Shape) (y cb cr y′ cb′ cr′ : List ℕ) where
   abbrev planes : List (List ℕ)
   planes = y ∷ cb ∷ cr ∷ y′ ∷ cb′ ∷ cr′ ∷ []
 
-  module _ {n : ℕ} (e : n ≡ firstNo (frameQuestions s luma chroma)) where
+  module _ {n : ℕ} (e : n ≡ firstNo (frameNumbers s luma chroma)) where
     pub frame-stopped : (n ≡ 0 → ⊥) → n ≡ frameRefusal s y cb cr y′ cb′ cr′
-    unfolding frameRefusal copyQuestions frameQuestions shapeQuestions
-    frame-stopped z = stopped (frameQuestions s luma chroma) refl e (samplesLow (s .depth) planes ∷ []) z
+    unfolding frameRefusal copyQuestions frameNumbers shapeNumbers
+    frame-stopped z = stopped (frameNumbers s luma chroma) refl e (samplesLow (s .depth) planes ∷ []) z
 
     pub frame-asked : n ≡ 0 → {l b r : Bool} → l ≡ bothLow (s .depth) y y′ → b ≡ bothLow (s .depth) cb cb′ → r ≡ bothLow (s .depth) cr cr′
         → frameRefusal s y cb cr y′ cb′ cr′ ≡ cond (l && (b && r)) 0 6
-    unfolding frameRefusal copyQuestions frameQuestions shapeQuestions allLow
+    unfolding frameRefusal copyQuestions frameNumbers shapeNumbers allLow
     frame-asked z p q t =
         let d = s .depth in
-        last-question (frameQuestions s luma chroma) refl (sym e ∙ z) (samplesLow d planes)
+        last-question (frameNumbers s luma chroma) refl (sym e ∙ z) (samplesLow d planes)
         ((λ i. p i && (q i && t i)) ∙ in-order (low d y) (low d y′) (low d cb) (low d cb′) (low d cr) (low d cr′))
 
     pub frame-pairs : n ≡ 0 → Pair (2 ^ 24) (s .depth) y y′ × Pair (2 ^ 24) (s .depth) cb cb′ × Pair (2 ^ 24) (s .depth) cr cr′
-    unfolding frameQuestions shapeQuestions
+    unfolding frameNumbers shapeNumbers
     frame-pairs z =
         let q = frameFilled s luma chroma in
-        let p = parts (shapeQuestions s) (q ∷ []) refl (sym e ∙ z) in
-        let f = and-eq-true-iff (each (lumaSamples s) luma) (each (chromaSamples s) chroma) .0 (passed (q ∷ []) refl (p .1) .0) in
+        let p = parts (shapeNumbers s) (q ∷ []) refl (sym e ∙ z) in
+        let f = and-eq-true-iff (each (samplesOf s Y) luma) (each (samplesOf s CbCr) chroma) .0 (passed (q ∷ []) refl (p .1) .0) in
         let k = is-known s (p .0) in
-        let l = are-each (lumaSamples s) luma (f .0) in
-        let c = are-each (chromaSamples s) chroma (f .1) in
-        let m : lumaSamples s ≤ 2 ^ 24 = area-le sideLimit (k .size .wide) (k .size .high) in
+        let l = are-each (samplesOf s Y) luma (f .0) in
+        let c = are-each (samplesOf s CbCr) chroma (f .1) in
+        let m : samplesOf s Y ≤ 2 ^ 24 = area-le sideLimit (k .size .wide) (k .size .high) in
         let h = le-trans (chroma-samples-le s) m in
         (pair k m (l .0) (l .1 .0), pair k h (c .0) (c .1 .1 .0), pair k h (c .1 .0) (c .1 .1 .1 .0))
       where

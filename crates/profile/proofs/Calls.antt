@@ -7,13 +7,15 @@ use native.Mathlib.Omega.{arith}
 use lib.Dec.{lit<}
 use lib.ListN.{length}
 use Rattle.laws.specs.Loop.{loop, turns}
+use Rattle.laws.specs.Limits.{sideLimit}
+use Rattle.frame.specs.Planes.{samplesOf}
 use Rattle.frame.specs.declared.Shape.{Shape}
-use Rattle.frame.specs.Questions.{lumaSamples, chromaSamples, sideLimit}
+use Rattle.frame.specs.declared.view.Component.the-variants.{Y, CbCr}
 use Rattle.frame.specs.Size.{chromaWidth, chromaHeight}
-use Rattle.frame.specs.Calls.{deepPlaneRefusal, frameRefusal}
+use Rattle.frame.specs.Calls.{pairRefusal, frameRefusal}
 use Rattle.frame.proofs.Facts.{Plane, Depth}
 use Rattle.frame.proofs.Size.{chroma-samples-le, area-le}
-use Rattle.frame.proofs.Accepted.{deep-plane-call, frame-call}
+use Rattle.frame.proofs.Accepted.{pair-call, frame-call}
 use Rattle.frame.proofs.Refusal.{granted}
 use Rattle.float.specs.Steps.{sigma16Of}
 use Rattle.profile.specs.Steps.{planeSigma16, totals, sigmaOfBin, profile}
@@ -33,12 +35,12 @@ module _ {size depth : ℕ} {a b : List ℕ} (d : Depth depth) (few : size ≤ 2
   low : Low depth a b
   low = record { source-low = p .below; denoised-low = q .below }
 
-pub sigma-worded : (w h depth : ℕ) (a b : List ℕ) → deepPlaneRefusal w h depth a b ≡ 0 → PlaneInWords (depth - 8) a b (sigmaAnswer w h depth a b .sigma16)
+pub sigma-worded : (w h depth : ℕ) (a b : List ℕ) → pairRefusal w h depth a b ≡ 0 → PlaneInWords (depth - 8) a b (sigmaAnswer w h depth a b .sigma16)
 unfolding sigmaAnswer
 sigma-worded w h depth a b e =
-    let c = deep-plane-call w h depth a b e in
+    let c = pair-call w h depth a b e in
     let few : w * h ≤ 2 ^ 24 = area-le sideLimit (c .size .wide) (c .size .high) in
-    rw (granted (deepPlaneRefusal w h depth a b) (planeSigma16 (depth - 8) a b) 0 e)
+    rw (granted (pairRefusal w h depth a b) (planeSigma16 (depth - 8) a b) 0 e)
     (plane-in-words (pair (c .deep) few (c .first) (c .second)) (low (c .deep) few (c .first) (c .second)))
 
 module _ (s : Shape) (y cb cr y′ cb′ cr′ : List ℕ) where
@@ -50,7 +52,7 @@ module _ (s : Shape) (y cb cr y′ cb′ cr′ : List ℕ) where
   estimate-worded e =
       let c = frame-call s y cb cr y′ cb′ cr′ e in
       let d = c .shape .depth in
-      let few : lumaSamples s ≤ 2 ^ 24 = area-le sideLimit (c .shape .size .wide) (c .shape .size .high) in
+      let few : samplesOf s Y ≤ 2 ^ 24 = area-le sideLimit (c .shape .size .wide) (c .shape .size .high) in
       let less = le-trans (chroma-samples-le s) few in
       let words : (bits least size : ℕ) (a b : List ℕ) → size ≤ 2 ^ 24 → 0 < least → Plane size (s .depth) a → Plane size (s .depth) b → InWords bits least (s .depth - 8) a b (profile bits least (s .depth - 8) a b)
       = λ bits least size a b f z p q. in-words (pair d f p q) (low d f p q) bits least z in
@@ -59,9 +61,9 @@ module _ (s : Shape) (y cb cr y′ cb′ cr′ : List ℕ) where
         cb-profile = profile 2 32 (s .depth - 8) cb cb′;
         cr-profile = profile 2 32 (s .depth - 8) cr cr′;
         answer = accepted-is e;
-        y-words = words 3 64 (lumaSamples s) y y′ few (lit< tt) (c .source .y) (c .copy .y);
-        cb-words = words 2 32 (chromaSamples s) cb cb′ less (lit< tt) (c .source .cb) (c .copy .cb);
-        cr-words = words 2 32 (chromaSamples s) cr cr′ less (lit< tt) (c .source .cr) (c .copy .cr);
+        y-words = words 3 64 (samplesOf s Y) y y′ few (lit< tt) (c .source .y) (c .copy .y);
+        cb-words = words 2 32 (samplesOf s CbCr) cb cb′ less (lit< tt) (c .source .cb) (c .copy .cb);
+        cr-words = words 2 32 (samplesOf s CbCr) cr cr′ less (lit< tt) (c .source .cr) (c .copy .cr);
       }
 
   -- "with every other field of the answer zero"
@@ -96,8 +98,8 @@ monochrome s y cb cr y′ cb′ cr′ m e =
     let a = accepted-is s y cb cr y′ cb′ cr′ e in
     ((λ i. (a i) .cb) ∙ gone cb cb′ (c .source .cb .samples), (λ i. (a i) .cr) ∙ gone cr cr′ (c .source .cr .samples))
   where
-    no-samples : chromaSamples s ≡ 0
+    no-samples : samplesOf s CbCr ≡ 0
     no-samples = ap (λ (f : ℕ). chromaWidth f (s .width) * chromaHeight f (s .height)) m
 
-    gone : (xs b : List ℕ) → length xs ≡ chromaSamples s → chromaProfile (s .depth) xs b ≡ chromaOf (noProfile 4)
+    gone : (xs b : List ℕ) → length xs ≡ samplesOf s CbCr → chromaProfile (s .depth) xs b ≡ chromaOf (noProfile 4)
     gone xs b l = rw (empty xs (l ∙ no-samples)) (none (s .depth) b)

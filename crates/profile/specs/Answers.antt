@@ -3,7 +3,7 @@ use mathlib.Core.List.{List}
 use Prim.Native.Nat.{ℕ, _-_}
 use lib.ListN.{replicate}
 use Rattle.frame.specs.Questions.{accepted}
-use Rattle.frame.specs.Calls.{deepPlaneRefusal, frameRefusal}
+use Rattle.frame.specs.Calls.{pairRefusal, frameRefusal}
 use Rattle.frame.specs.declared.Shape.{Shape}
 use Rattle.profile.specs.Steps.{Profile, planeSigma16, profile}
 use Rattle.profile.specs.declared.Sigma.{Sigma}
@@ -12,9 +12,9 @@ use Rattle.profile.specs.declared.ChromaProfile.{ChromaProfile}
 use Rattle.profile.specs.declared.NoiseEstimate.{NoiseEstimate}
 
 unfoldable pub sigmaAnswer : ℕ → ℕ → ℕ → List ℕ → List ℕ → Sigma
-unfolding deepPlaneRefusal planeSigma16
+unfolding pairRefusal planeSigma16
 sigmaAnswer width height depth source denoised =
-    let r = deepPlaneRefusal width height depth source denoised in
+    let r = pairRefusal width height depth source denoised in
     record { refusal = r; sigma16 = accepted r (planeSigma16 (depth - 8) source denoised) 0 }
 
 -- ---- noise_estimate

@@ -118,7 +118,7 @@ pub fn noise_estimate(
 ) -> NoiseEstimate
     ensures { λ r. ⌜ r ≡ estimateAnswer s (now (y .entry)) (now (cb .entry)) (now (cr .entry)) (now (dy .entry)) (now (dcb .entry)) (now (dcr .entry)) ⌝ }
 {
-    let refusal = frame::frame_refusal(
+    let refusal = frame::frame_numbers(
         s,
         y.len(),
         cb.len(),

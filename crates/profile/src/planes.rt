@@ -33,7 +33,7 @@ fn plane_squares(src: &[u16], den: &[u16], depth: u8) -> Squares
 pub fn plane_sigma16(src: &[u16], den: &[u16], width: usize, height: usize, depth: u8) -> Sigma
     ensures { λ r. ⌜ r ≡ sigmaAnswer width height depth (now (src .entry)) (now (den .entry)) ⌝ }
 {
-    let refusal = frame::deep_plane_refusal(width, height, depth, src.len(), den.len());
+    let refusal = frame::pair_numbers(width, height, depth, src.len(), den.len());
     if refusal != 0 {
         return Sigma {
             refusal,

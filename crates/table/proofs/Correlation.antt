@@ -6,7 +6,7 @@ use Rattle.frame.specs.Size.{chromaWidth, chromaHeight}
 use Rattle.float.specs.Steps.{quantAr}
 use Rattle.noise.specs.Average.{averageF, quarters}
 use Rattle.noise.specs.Steps.{windowF}
-use Rattle.correlation.specs.Steps.{squaresF, productsF, corr}
+use Rattle.chroma_correlation.specs.Steps.{squaresF, productsF, corr}
 use Rattle.table.specs.Correlation.{figures, cases}
 
 pub cases-right : Right figures cases

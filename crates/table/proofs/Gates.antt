@@ -4,7 +4,7 @@ use lib.Ieee.{add, sub, mul, div, le, lt, ofInt, ofBits, toUnsigned}
 use Rattle.table.specs.Cases.{Right}
 use Rattle.frame.specs.Size.{chromaWidth, chromaHeight}
 use Rattle.frame.specs.Questions.{each, low, allLow}
-use Rattle.frame.specs.Calls.{shapeQuestions, lumaQuestions, chromaQuestions, lumaGateRefusal, chromaGateRefusal}
+use Rattle.frame.specs.Calls.{shapeNumbers, gateNumbers, gateRefusal}
 use Rattle.float.specs.Magnitude.{magnitudeOf}
 use Rattle.float.specs.Root.{root}
 use Rattle.float.specs.Steps.{sigma16Of}
@@ -20,9 +20,9 @@ unfolding rowCorrelation energyF windowF lagF add sub mul div le ofInt ofBits
 row-cases-right = (refl, (refl, (refl, tt)))
 
 pub luma-cases-right : Right lumaFound cases
-unfolding lumaAnswer lumaGateRefusal lumaQuestions shapeQuestions each low allLow lumaFinding temporal lumaRow magnitudeOf root planeSigma16 planeSquares sigma16Of windowF dotF add sub mul div le lt ofInt ofBits toUnsigned
+unfolding lumaAnswer gateRefusal gateNumbers shapeNumbers each low allLow lumaFinding temporal lumaRow magnitudeOf root planeSigma16 planeSquares sigma16Of windowF dotF add sub mul div le lt ofInt ofBits toUnsigned
 luma-cases-right = (refl, (refl, (refl, (refl, tt))))
 
 pub chroma-cases-right : Right chromaFound cases
-unfolding chromaAnswer chromaGateRefusal chromaQuestions shapeQuestions chromaWidth chromaHeight each low allLow chromaFinding temporal rowCorrelation energyF lagF magnitudeOf root planeSigma16 planeSquares sigma16Of windowF dotF add sub mul div le lt ofInt ofBits toUnsigned
+unfolding chromaAnswer gateRefusal gateNumbers shapeNumbers chromaWidth chromaHeight each low allLow chromaFinding temporal rowCorrelation energyF lagF magnitudeOf root planeSigma16 planeSquares sigma16Of windowF dotF add sub mul div le lt ofInt ofBits toUnsigned
 chroma-cases-right = (refl, (refl, (refl, (refl, tt))))

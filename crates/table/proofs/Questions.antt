@@ -3,35 +3,35 @@ use mathlib.Core.Path.{refl}
 use Rattle.table.specs.Cases.{Right}
 use Rattle.frame.specs.Size.{chromaWidth, chromaHeight}
 use Rattle.frame.specs.Questions.{each, low, allLow}
-use Rattle.frame.specs.Calls.{planeQuestions, deepPlaneQuestions, shapeQuestions, frameQuestions, lumaQuestions, chromaQuestions, copyQuestions, planeRefusal, deepPlaneRefusal, frameRefusal, fitRefusal, lumaGateRefusal, chromaGateRefusal, denoiseFrameRefusal}
+use Rattle.frame.specs.Calls.{planeNumbers, pairNumbers, shapeNumbers, frameNumbers, gateNumbers, copyQuestions, planeRefusal, pairRefusal, frameRefusal, fitRefusal, gateRefusal, denoiseFrameRefusal}
 use Rattle.table.specs.Questions.{plane, planeCases, deepPlane, deepPlaneCases, frame, frameCases, fit, fitCases, denoiseFrame, denoiseFrameCases, lumaGate, lumaGateCases, chromaGate, chromaGateCases, order, orderCases, bits, bitsCases}
 
 pub planes-right : Right plane planeCases
-unfolding planeRefusal planeQuestions each
+unfolding planeRefusal planeNumbers each
 planes-right = (refl, (refl, (refl, (refl, (refl, (refl, (refl, tt)))))))
 
 pub deep-planes-right : Right deepPlane deepPlaneCases
-unfolding deepPlaneRefusal deepPlaneQuestions each allLow low
+unfolding pairRefusal pairNumbers each allLow low
 deep-planes-right = (refl, (refl, (refl, (refl, (refl, (refl, (refl, (refl, (refl, (refl, (refl, (refl, tt))))))))))))
 
 pub frames-right : Right frame frameCases
-unfolding frameRefusal copyQuestions frameQuestions shapeQuestions chromaWidth chromaHeight each allLow low
+unfolding frameRefusal copyQuestions frameNumbers shapeNumbers chromaWidth chromaHeight each allLow low
 frames-right = (refl, (refl, (refl, (refl, (refl, (refl, (refl, (refl, (refl, (refl, (refl, (refl, (refl, (refl, (refl, (refl, (refl, (refl, (refl, tt)))))))))))))))))))
 
 pub fits-right : Right fit fitCases
-unfolding fitRefusal copyQuestions frameQuestions shapeQuestions chromaWidth chromaHeight each allLow low
+unfolding fitRefusal copyQuestions frameNumbers shapeNumbers chromaWidth chromaHeight each allLow low
 fits-right = (refl, (refl, (refl, tt)))
 
 pub denoise-frames-right : Right denoiseFrame denoiseFrameCases
-unfolding denoiseFrameRefusal frameQuestions shapeQuestions chromaWidth chromaHeight each allLow low
+unfolding denoiseFrameRefusal frameNumbers shapeNumbers chromaWidth chromaHeight each allLow low
 denoise-frames-right = (refl, (refl, (refl, (refl, (refl, (refl, tt))))))
 
 pub luma-gates-right : Right lumaGate lumaGateCases
-unfolding lumaGateRefusal lumaQuestions shapeQuestions each allLow low
+unfolding gateRefusal gateNumbers shapeNumbers each allLow low
 luma-gates-right = (refl, (refl, (refl, (refl, (refl, (refl, (refl, (refl, tt))))))))
 
 pub chroma-gates-right : Right chromaGate chromaGateCases
-unfolding chromaGateRefusal chromaQuestions shapeQuestions chromaWidth chromaHeight each allLow low
+unfolding gateRefusal gateNumbers shapeNumbers chromaWidth chromaHeight each allLow low
 chroma-gates-right = (refl, (refl, (refl, (refl, tt))))
 
 pub orders-right : Right order orderCases

@@ -9,7 +9,7 @@ use Rattle.frame.specs.Size.{chromaWidth, chromaHeight}
 use Rattle.noise.specs.Average.{Luma, quarters}
 use Rattle.noise.specs.Products.{pair}
 use Rattle.noise.specs.Quarters.{luma}
-use Rattle.correlation.specs.Steps.{corr}
+use Rattle.chroma_correlation.specs.Steps.{corr}
 
 -- luma and one chroma component, denoised to 0
 pub record Noises : Type 0 where

@@ -2,9 +2,9 @@
 use mathlib.Core.List.{List, [], _∷_}
 use Prim.Native.Nat.{ℕ}
 use lib.IntN.{pos, negsuc}
-use Rattle.table.specs.Cases.{Case, row}
-use Rattle.positions.specs.Positions.{Offset, answered}
+use Rattle.positions.specs.Positions.{Offset, refused}
 use Rattle.positions.specs.declared.Positions.{Positions}
+use Rattle.table.specs.Cases.{Case, row}
 
 -- a lag and its neighbours
 abbrev pub orders : List (Case ℕ (List Offset))
@@ -13,4 +13,4 @@ orders =
     row 1 ((negsuc 0, negsuc 0) ∷ (negsuc 0, pos 0) ∷ (negsuc 0, pos 1) ∷ (pos 0, negsuc 0) ∷ []) ∷ []
 
 abbrev pub refusals : List (Case ℕ Positions)
-refusals = row 4 (answered 7 []) ∷ []
+refusals = row 4 (refused 7) ∷ []

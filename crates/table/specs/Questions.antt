@@ -4,8 +4,9 @@ use Prim.Native.Nat.{ℕ, _-_}
 use lib.ListN.{replicate}
 use Rattle.table.specs.Cases.{Case, row}
 use Rattle.frame.specs.Questions.{firstNo, orderKnown, bitsKnown}
-use Rattle.frame.specs.Calls.{planeRefusal, deepPlaneRefusal, frameRefusal, fitRefusal, lumaGateRefusal, chromaGateRefusal, denoiseFrameRefusal}
+use Rattle.frame.specs.Calls.{planeRefusal, pairRefusal, frameRefusal, fitRefusal, gateRefusal, denoiseFrameRefusal}
 use Rattle.frame.specs.declared.Shape.{Shape}
+use Rattle.frame.specs.declared.view.Component.the-variants.{Y, CbCr}
 
 -- ---- lone planes: width, height, the lengths of source and destination
 
@@ -24,7 +25,7 @@ planeCases =
 
 -- width, height, depth, the samples of the plane and of its copy
 abbrev pub deepPlane : ℕ × ℕ × ℕ × List ℕ × List ℕ → ℕ
-deepPlane (w, h, depth, a, b) = deepPlaneRefusal w h depth a b
+deepPlane (w, h, depth, a, b) = pairRefusal w h depth a b
 
 abbrev pub deepPlaneCases : List (Case (ℕ × ℕ × ℕ × List ℕ × List ℕ) ℕ)
 deepPlaneCases =
@@ -111,7 +112,7 @@ abbrev pub Four : Type 0
 Four = List ℕ × List ℕ × List ℕ × List ℕ
 
 abbrev pub lumaGate : Shape × Four → ℕ
-lumaGate (s, (a, b, c, d)) = lumaGateRefusal s a b c d
+lumaGate (s, (a, b, c, d)) = gateRefusal s Y a b c d
 
 abbrev pub lumaGateCases : List (Case (Shape × Four) ℕ)
 lumaGateCases =
@@ -125,7 +126,7 @@ lumaGateCases =
     row (shape 3 3 8 1, (high 9, flat 9, flat 9, flat 8)) 5 ∷ []
 
 abbrev pub chromaGate : Shape × Four → ℕ
-chromaGate (s, (a, b, c, d)) = chromaGateRefusal s a b c d
+chromaGate (s, (a, b, c, d)) = gateRefusal s CbCr a b c d
 
 abbrev pub chromaGateCases : List (Case (Shape × Four) ℕ)
 chromaGateCases =

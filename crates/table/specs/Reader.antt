@@ -3,9 +3,9 @@ use mathlib.Core.List.{List, [], _∷_}
 use Prim.Native.Nat.{ℕ}
 use lib.IntN.{ℤ, pos, negsuc}
 use Rattle.table.specs.Cases.{Case, row}
-use Rattle.reader.specs.Read.{sampleOf}
-use Rattle.reader.specs.declared.Sample.{Sample}
-use Rattle.reader.specs.declared.Sample.the-variants.{Refused, Nothing, Value}
+use Rattle.plane_reader.specs.Read.{sampleOf}
+use Rattle.plane_reader.specs.declared.Sample.{Sample}
+use Rattle.plane_reader.specs.declared.Sample.the-variants.{Refused, Nothing, Value}
 
 pub record Read : Type 0 where
   pub samples : List ℕ

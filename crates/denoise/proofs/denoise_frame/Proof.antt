@@ -17,18 +17,18 @@ lent c = planes (c .args .y .now) (c .args .cb .now) (c .args .cr .now)
 abbrev held : tie.Start → Planes
 held c = planes (c .args .dy .now) (c .args .dcb .now) (c .args .dcr .now)
 
-denoise-frame-call-requires : tie.Need-denoise-frame-call-requires
-denoise-frame-call-requires c κs = search needs
+denoise-frame-refusal-requires : tie.Need-denoise-frame-refusal-requires
+denoise-frame-refusal-requires c κs = search needs
 
 returns : tie.Need-returns
 returns c =
     let S = c .before .before .before .before .before .before .before .before in
-    frame-refused (S .args .s) (lent S) (held S) _ (c .before .denoise-frame-call .ensures) (c .if1 .taken)
+    frame-refused (S .args .s) (lent S) (held S) _ (c .before .denoise-frame-refusal .ensures) (c .if1 .taken)
 
 -- past the questions
 known : (c : tie.Else1) → let A = c .before .before .before .before .before .before .before .before .args in
     DenoiseFrameCall (A .s) (A .y .now) (A .cb .now) (A .cr .now) (length (A .dy .now)) (length (A .dcb .now)) (length (A .dcr .now))
-known c = denoise-frame-call _ _ _ _ _ _ _ (sym (c .before .denoise-frame-call .ensures) ∙ c .if1 .left)
+known c = denoise-frame-call _ _ _ _ _ _ _ (sym (c .before .denoise-frame-refusal .ensures) ∙ c .if1 .left)
 
 chroma-width-requires : tie.Need-chroma-width-requires
 chroma-width-requires c κs = search needs
@@ -68,13 +68,13 @@ returns-2 c =
     let E = H .before .before in
     let S = E .before .before .before .before .before .before .before .before in
     rw (D .before .before .before .before .before .before .before .before .smooth-plane .ensures, D .before .before .before .before .smooth-plane2 .ensures, D .smooth-plane3 .ensures, H .before .chroma-width .ensures, H .chroma-height .ensures)
-    (frame-accepted (S .args .s) (lent S) (held S) _ (E .before .denoise-frame-call .ensures) (E .if1 .left))
+    (frame-accepted (S .args .s) (lent S) (held S) _ (E .before .denoise-frame-refusal .ensures) (E .if1 .left))
 
 pub denoise-frame-spec : {M : Type 1} → statement M
 denoise-frame-spec =
     tie.close
     (tie.spec
-    denoise-frame-call-requires
+    denoise-frame-refusal-requires
     returns
     chroma-width-requires
     chroma-height-requires

@@ -4,9 +4,9 @@ use native.Mathlib.Omega.{arith}
 use denote.Ref.{now}
 use Rattle.frame.proofs.Accepted.{FitCall, fit-call}
 use Rattle.noise.proofs.Accepted.{plane-of}
-use Rattle.normal.proofs.Sizes.{neighbours-le}
-use Rattle.fit.specs.Answer.{firstOf}
 use Rattle.noise.proofs.Accepted.{component}
+use Rattle.positions.proofs.Counts.{neighbours-le}
+use Rattle.fit.specs.Answer.{firstOf}
 use Rattle.fit.proofs.Answers.{refused, no-fit, fitted}
 use borrow.Author.Needs.{needs}
 use Rattle.fit.proofs.fit_ar_lag.Statement.{statement}
@@ -14,16 +14,16 @@ use Rattle.fit.proofs.fit_ar_lag.Tie as tie
 
 -- what is known once the questions are passed
 granted : (c : tie.Else1) → (let a = c .before .before .before .before .before .before .before .before .args in FitCall (a .s) (now (a .y)) (now (a .cb)) (now (a .cr)) (now (a .dy)) (now (a .dcb)) (now (a .dcr)) (a .lag))
-granted c = fit-call _ _ _ _ _ _ _ _ (sym (c .before .fit-call .ensures) ∙ c .if1 .left)
+granted c = fit-call _ _ _ _ _ _ _ _ (sym (c .before .fit-refusal .ensures) ∙ c .if1 .left)
 
-fit-call-requires : tie.Need-fit-call-requires
-fit-call-requires c κs = search needs
+fit-refusal-requires : tie.Need-fit-refusal-requires
+fit-refusal-requires c κs = search needs
 
 unfitted-requires : tie.Need-unfitted-requires
 unfitted-requires c κs = search needs
 
 returns : tie.Need-returns
-returns c = c .unfitted .ensures ∙ refused _ _ _ _ _ _ _ _ _ (c .before .before .fit-call .ensures) (c .before .if1 .taken)
+returns c = c .unfitted .ensures ∙ refused _ _ _ _ _ _ _ _ _ (c .before .before .fit-refusal .ensures) (c .before .if1 .taken)
 
 mul-count : tie.Need-mul-count
 mul-count c = omega (arith, granted c .lag-known)
@@ -50,7 +50,7 @@ returns-2 : tie.Need-returns-2
 returns-2 c =
     let k = c .before .before .before .before .before in
     c .unfitted2 .ensures
-    ∙ no-fit _ _ _ _ _ _ _ _ _ (k .before .fit-call .ensures) (k .if1 .left) _ (c .before .before .before .first .ensures ∙ ap firstOf (c .before .before .before .before .luma-fit .ensures)) (sym (c .before .before .all-zero .ensures) ∙ c .before .if2 .taken)
+    ∙ no-fit _ _ _ _ _ _ _ _ _ (k .before .fit-refusal .ensures) (k .if1 .left) _ (c .before .before .before .first .ensures ∙ ap firstOf (c .before .before .before .before .luma-fit .ensures)) (sym (c .before .before .all-zero .ensures) ∙ c .before .if2 .taken)
 
 chroma-width-requires : tie.Need-chroma-width-requires
 chroma-width-requires c κs = search needs
@@ -68,13 +68,13 @@ chroma-fit-requires c κs =
 returns-3 : tie.Need-returns-3
 returns-3 c =
     let k = c .before .before .before .before .before .before .before .before .before in
-    fitted _ _ _ _ _ _ _ _ _ (k .before .fit-call .ensures) (k .if1 .left) _ (c .before .before .before .before .before .before .before .first .ensures ∙ ap firstOf (c .before .before .before .before .before .before .before .before .luma-fit .ensures)) (sym (c .before .before .before .before .before .before .all-zero .ensures) ∙ c .before .before .before .before .before .if2 .left) _ _ _ _ (c .before .before .before .before .chroma-width .ensures) (c .before .before .before .chroma-height .ensures) (c .before .before .chroma-fit .ensures .0) (c .before .before .chroma-fit .ensures .1)
+    fitted _ _ _ _ _ _ _ _ _ (k .before .fit-refusal .ensures) (k .if1 .left) _ (c .before .before .before .before .before .before .before .first .ensures ∙ ap firstOf (c .before .before .before .before .before .before .before .before .luma-fit .ensures)) (sym (c .before .before .before .before .before .before .all-zero .ensures) ∙ c .before .before .before .before .before .if2 .left) _ _ _ _ (c .before .before .before .before .chroma-width .ensures) (c .before .before .before .chroma-height .ensures) (c .before .before .chroma-fit .ensures .0) (c .before .before .chroma-fit .ensures .1)
 
 pub fit-ar-lag-spec : {M : Type 1} → statement M
 fit-ar-lag-spec =
     tie.close
     (tie.spec
-    fit-call-requires
+    fit-refusal-requires
     unfitted-requires
     returns
     mul-count

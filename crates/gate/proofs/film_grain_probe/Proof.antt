@@ -2,32 +2,33 @@
 use mathlib.Core.Path.{sym, _∙_}
 use native.Mathlib.Omega.{arith}
 use borrow.Author.Needs.{needs}
-use Rattle.frame.proofs.Accepted.{luma-gate-call}
+use Rattle.frame.proofs.Accepted.{gate-call}
+use Rattle.frame.specs.declared.view.Component.the-variants.{Y}
 use Rattle.noise.proofs.Accepted.{plane-of}
 use Rattle.gate.proofs.Answers.{luma-refused, luma-answered}
 use Rattle.gate.proofs.film_grain_probe.Statement.{statement}
 use Rattle.gate.proofs.film_grain_probe.Tie as tie
 
-luma-gate-call-requires : tie.Need-luma-gate-call-requires
-luma-gate-call-requires c κs = search needs
+gate-refusal-requires : tie.Need-gate-refusal-requires
+gate-refusal-requires c κs = search needs
 
 returns : tie.Need-returns
-returns c = luma-refused _ _ _ _ _ _ (c .before .luma-gate-call .ensures) (c .if1 .taken)
+returns c = luma-refused _ _ _ _ _ _ (c .before .gate-refusal .ensures) (c .if1 .taken)
 
 sub-shift : tie.Need-sub-shift
 sub-shift c =
     let k = c .before in
-    luma-gate-call _ _ _ _ _ (sym (k .before .luma-gate-call .ensures) ∙ k .if1 .left) .shape .depth .least
+    gate-call _ Y _ _ _ _ (sym (k .before .gate-refusal .ensures) ∙ k .if1 .left) .shape .depth .least
 
 cast-shift : tie.Need-cast-shift
 cast-shift c =
     let k = c .before in
-    record { fits = omega (arith, luma-gate-call _ _ _ _ _ (sym (k .before .luma-gate-call .ensures) ∙ k .if1 .left) .shape .depth .most) }
+    record { fits = omega (arith, gate-call _ Y _ _ _ _ (sym (k .before .gate-refusal .ensures) ∙ k .if1 .left) .shape .depth .most) }
 
 luma-finding-requires : tie.Need-luma-finding-requires
 luma-finding-requires c κs =
     let k = c .before in
-    let g = luma-gate-call _ _ _ _ _ (sym (k .before .luma-gate-call .ensures) ∙ k .if1 .left) in (
+    let g = gate-call _ Y _ _ _ _ (sym (k .before .gate-refusal .ensures) ∙ k .if1 .left) in (
       plane-of _ _ _ _ _ (g .first) (g .second),
       plane-of _ _ _ _ _ (g .third) (g .fourth),
       g .shape .size .wide,
@@ -42,13 +43,13 @@ is-passed-requires c κs = search needs
 returns-2 : tie.Need-returns-2
 returns-2 c =
     let k = c .before .before .before in
-    luma-answered _ _ _ _ _ _ (k .before .luma-gate-call .ensures) _ _ (k .if1 .left) (c .before .luma-finding .ensures) (c .is-passed .ensures)
+    luma-answered _ _ _ _ _ _ (k .before .gate-refusal .ensures) _ _ (k .if1 .left) (c .before .luma-finding .ensures) (c .is-passed .ensures)
 
 pub film-grain-probe-spec : {M : Type 1} → statement M
 film-grain-probe-spec =
     tie.close
     (tie.spec
-    luma-gate-call-requires
+    gate-refusal-requires
     returns
     sub-shift
     cast-shift

@@ -6,8 +6,8 @@ use native.Mathlib.Omega.{arith}
 use borrow.Author.Needs.{needs}
 use mir.Syntax.{w32}
 use mir.ValLaws.{toZ-ofZ}
-use Rattle.normal.proofs.Sizes.{neighbours-le}
-use Rattle.positions.proofs.Answers.{Filling, filling-turn, filling-ends, refused}
+use Rattle.positions.proofs.Counts.{neighbours-le}
+use Rattle.positions.proofs.Answers.{Filling, filling-turn, filling-ends, refused-is}
 use Rattle.positions.proofs.ar_positions.Statement.{statement}
 use Rattle.positions.proofs.ar_positions.Tie as tie
 
@@ -18,7 +18,7 @@ abbrev μ-loop : tie.MeasureT-loop
 μ-loop lag rows₀ columns₀ side count i₀ rows columns i = count - i
 
 returns : tie.Need-returns Inv-loop μ-loop
-returns c = sym (refused (c .before .args .lag) (c .if1 .taken))
+returns c = sym (refused-is (c .before .args .lag) (c .if1 .taken))
 
 mul-side : tie.Need-mul-side Inv-loop μ-loop
 mul-side c = search needs

@@ -1,7 +1,7 @@
 -- `fit::equations::matrix_row` meets its contract: filled from the front. Assumes nothing.
 use Prim.Native.Nat.{_-_}
 use borrow.Author.Needs.{needs}
-use Rattle.noise.proofs.Fill.{Filled, fill-starts, fill-turn, fill-ends}
+use Rattle.laws.proofs.Fill.{Filled, fill-starts, fill-turn, fill-ends}
 use Rattle.fit.specs.Steps.{cellOf, rowOf}
 use Rattle.fit.specs.Sums.{sumAt}
 use Rattle.fit.proofs.equations.matrix_row.Statement.{statement}

@@ -1,7 +1,7 @@
 -- `fit::equations::right_side` meets its contract: filled from the front. Assumes nothing.
 use Prim.Native.Nat.{_-_}
 use borrow.Author.Needs.{needs}
-use Rattle.noise.proofs.Fill.{Filled, fill-starts, fill-turn, fill-ends}
+use Rattle.laws.proofs.Fill.{Filled, fill-starts, fill-turn, fill-ends}
 use Rattle.fit.specs.Steps.{valueOf, rightOf}
 use Rattle.fit.specs.Sums.{rightAt}
 use Rattle.fit.proofs.equations.right_side.Statement.{statement}

@@ -1,62 +1,58 @@
--- `frame::refusals::frame_refusal` meets its contract: the shape first, and then the lengths against the sizes of an accepted shape. Assumes nothing.
-use mathlib.Core.Path.{refl, sym, _∙_}
-use mathlib.Core.List.{[], _∷_}
-use Rattle.frame.specs.Questions.{frameFilled}
-use Rattle.frame.specs.Calls.{frameQuestions, shapeQuestions}
-use Rattle.frame.proofs.Refusal.{asked, stopped, and-is}
-use Rattle.frame.proofs.Facts.{Known, is-known}
+-- `frame::refusals::frame_refusal` meets its contract: the numbers first, and then the samples. Assumes nothing.
+use mathlib.Core.Path.{refl}
+use mathlib.Core.List.{[], _∷_, _++_, map}
+use lib.ListN.{length}
+use denote.Ref.{now}
+use Rattle.frame.specs.Questions.{samplesLow}
+use Rattle.frame.specs.Calls.{shapeNumbers, frameNumbers, copyQuestions, frameRefusal}
+use Rattle.frame.proofs.Refusal.{asked, stopped}
+use Rattle.frame.proofs.Samples.{low-both}
 use borrow.Author.Needs.{needs}
 use Rattle.frame.proofs.refusals.frame_refusal.Statement.{statement}
 use Rattle.frame.proofs.refusals.frame_refusal.Tie as tie
 
-shape-refusal-requires : tie.Need-shape-refusal-requires
-shape-refusal-requires c κs = search needs
+frame-numbers-requires : tie.Need-frame-numbers-requires
+frame-numbers-requires c κs = search needs
 
 returns : tie.Need-returns
-unfolding frameQuestions shapeQuestions
+unfolding frameRefusal copyQuestions frameNumbers shapeNumbers
 returns c =
-    let a = c .before .before .args in
-    stopped (shapeQuestions (a .s)) refl (c .before .shape-refusal .ensures)
-    (frameFilled (a .s) (a .y ∷ a .y2 ∷ []) (a .cb ∷ a .cr ∷ a .cb2 ∷ a .cr2 ∷ []) ∷ []) (c .if1 .taken)
+    let a = c .before .before .before .before .before .before .before .before .args in
+    let luma = now (a .y) ∷ now (a .dy) ∷ [] in
+    let chroma = now (a .cb) ∷ now (a .cr) ∷ now (a .dcb) ∷ now (a .dcr) ∷ [] in
+    let source = now (a .y) ∷ now (a .cb) ∷ now (a .cr) ∷ [] in
+    let copy = now (a .dy) ∷ now (a .dcb) ∷ now (a .dcr) ∷ [] in
+    stopped (frameNumbers (a .s) (map length luma) (map length chroma)) refl (c .before .frame-numbers .ensures)
+    (samplesLow (a .s .depth) (source ++ copy) ∷ []) (c .if1 .taken)
 
--- past the questions about the shape
-known : (k : tie.Else1) → Known (k .before .before .args .s)
-known k = is-known (k .before .before .args .s) (sym (k .before .shape-refusal .ensures) ∙ k .if1 .left)
+frame-low-requires : tie.Need-frame-low-requires
+frame-low-requires c κs = search needs
 
-luma-samples-requires : tie.Need-luma-samples-requires
-luma-samples-requires c κs = let k = known c in (k .size .wide, k .size .high)
-
-both-are-requires : tie.Need-both-are-requires
-both-are-requires c κs = search needs
-
-chroma-samples-requires : tie.Need-chroma-samples-requires
-chroma-samples-requires c κs = let k = known (c .before .before) in (k .size .wide, k .size .high)
-
-four-are-requires : tie.Need-four-are-requires
-four-are-requires c κs = search needs
+frame-low-requires-2 : tie.Need-frame-low-requires-2
+frame-low-requires-2 c κs = search needs
 
 ask-requires : tie.Need-ask-requires
 ask-requires c κs = search needs
 
 returns-2 : tie.Need-returns-2
-unfolding frameQuestions shapeQuestions
+unfolding frameRefusal copyQuestions frameNumbers shapeNumbers
 returns-2 c =
-    let a = c .before .before .before .before .before .before .before .args in
-    asked (shapeQuestions (a .s)) refl (c .before .before .before .before .before .before .shape-refusal .ensures)
-    (frameFilled (a .s) (a .y ∷ a .y2 ∷ []) (a .cb ∷ a .cr ∷ a .cb2 ∷ a .cr2 ∷ [])) (c .ask .ensures)
-    (and-is
-    (rw (c .before .before .before .before .luma-samples .ensures) at (c .before .before .before .both-are .ensures))
-    (rw (c .before .before .chroma-samples .ensures) at (c .before .four-are .ensures)))
+    let a = c .before .before .before .before .before .before .before .before .before .before .before .args in
+    let luma = now (a .y) ∷ now (a .dy) ∷ [] in
+    let chroma = now (a .cb) ∷ now (a .cr) ∷ now (a .dcb) ∷ now (a .dcr) ∷ [] in
+    let source = now (a .y) ∷ now (a .cb) ∷ now (a .cr) ∷ [] in
+    let copy = now (a .dy) ∷ now (a .dcb) ∷ now (a .dcr) ∷ [] in
+    asked (frameNumbers (a .s) (map length luma) (map length chroma)) refl (c .before .before .before .before .frame-numbers .ensures)
+    (samplesLow (a .s .depth) (source ++ copy)) (c .ask .ensures)
+    (low-both (a .s .depth) source copy (c .before .before .frame-low .ensures) (c .before .frame-low2 .ensures))
 
 pub frame-refusal-spec : {M : Type 1} → statement M
 frame-refusal-spec =
     tie.close
     (tie.spec
-    shape-refusal-requires
+    frame-numbers-requires
     returns
-    luma-samples-requires
-    both-are-requires
-    chroma-samples-requires
-    four-are-requires
+    frame-low-requires
+    frame-low-requires-2
     ask-requires
     returns-2)

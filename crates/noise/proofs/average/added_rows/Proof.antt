@@ -12,8 +12,8 @@ use mir.Val.{ofZ, toZ}
 use Rattle.laws.specs.Table.{tabulate}
 use Rattle.laws.proofs.Is.{Is, fits, again}
 use Rattle.noise.specs.Noise.{noise, place}
-use Rattle.noise.proofs.Fill.{Filled, fill-starts, fill-turn, fill-ends}
-use Rattle.noise.proofs.Grids.{plane-noise-le}
+use Rattle.laws.proofs.Fill.{Filled, fill-starts, fill-turn, fill-ends}
+use Rattle.noise.proofs.Seen.{plane-noise-le}
 use Rattle.noise.proofs.Quarters.{two-is}
 use Rattle.noise.proofs.average.added_rows.Statement.{statement}
 use Rattle.noise.proofs.average.added_rows.Tie as tie

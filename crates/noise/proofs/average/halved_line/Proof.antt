@@ -11,7 +11,7 @@ use Rattle.laws.proofs.Table.{tabulate-at}
 use Rattle.laws.proofs.Is.{Is, fits, again}
 use Rattle.noise.specs.Lines.{at}
 use Rattle.noise.specs.Quarters.{quartered}
-use Rattle.noise.proofs.Fill.{Filled, fill-starts, fill-turn, fill-ends}
+use Rattle.laws.proofs.Fill.{Filled, fill-starts, fill-turn, fill-ends}
 use Rattle.noise.proofs.Quarters.{last-is}
 use Rattle.noise.proofs.average.halved_line.Statement.{statement}
 use Rattle.noise.proofs.average.halved_line.Tie as tie

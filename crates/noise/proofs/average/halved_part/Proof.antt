@@ -10,7 +10,7 @@ use Rattle.laws.proofs.Table.{tabulate-at}
 use Rattle.laws.proofs.Is.{Is, fits, again}
 use Rattle.noise.specs.Lines.{at}
 use Rattle.noise.specs.Quarters.{quartered}
-use Rattle.noise.proofs.Fill.{Filled, fill-turn}
+use Rattle.laws.proofs.Fill.{Filled, fill-turn}
 use Rattle.noise.proofs.Quarters.{even-is}
 use Rattle.noise.proofs.average.halved_part.Statement.{statement}
 use Rattle.noise.proofs.average.halved_part.Tie as tie

@@ -9,7 +9,7 @@ use mir.Val.{ofZ, toZ}
 use Rattle.laws.proofs.Is.{Is, fits, again}
 use Rattle.noise.specs.Lines.{at}
 use Rattle.noise.specs.Quarters.{quartered}
-use Rattle.noise.proofs.Fill.{Filled, fill-starts, fill-turn, fill-ends}
+use Rattle.laws.proofs.Fill.{Filled, fill-starts, fill-turn, fill-ends}
 use Rattle.noise.proofs.Quarters.{kept-is}
 use Rattle.noise.proofs.average.kept_line.Statement.{statement}
 use Rattle.noise.proofs.average.kept_line.Tie as tie

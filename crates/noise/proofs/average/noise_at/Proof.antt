@@ -12,7 +12,7 @@ use mir.Val.{toZ}
 use Rattle.laws.proofs.Whole.{abs-diff}
 use Rattle.laws.proofs.Is.{Is, sfits, unsigned, minus, fits, again}
 use Rattle.noise.specs.Noise.{noise, place}
-use Rattle.noise.proofs.Grids.{place-in}
+use Rattle.noise.proofs.Seen.{place-in}
 use Rattle.noise.proofs.average.noise_at.Statement.{statement}
 use Rattle.noise.proofs.average.noise_at.Tie as tie
 

@@ -5,7 +5,7 @@ use borrow.Author.Needs.{needs}
 use lib.ListN.{length, length-set}
 use Rattle.laws.proofs.Is.{fits, again}
 use Rattle.noise.specs.Noise.{noise}
-use Rattle.noise.proofs.Fill.{Filled, fill-starts, fill-turn, fill-ends}
+use Rattle.laws.proofs.Fill.{Filled, fill-starts, fill-turn, fill-ends}
 use Rattle.noise.proofs.Lines.{source-in, denoised-in, source-fits, denoised-fits, noise-is}
 use Rattle.noise.proofs.line.noise_places.Statement.{statement}
 use Rattle.noise.proofs.line.noise_places.Tie as tie

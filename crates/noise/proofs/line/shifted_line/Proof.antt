@@ -6,7 +6,7 @@ use lib.ListN.{length, length-set}
 use Rattle.laws.proofs.Is.{again}
 use Rattle.noise.specs.Shift.{shifted}
 use Rattle.noise.specs.Lines.{at}
-use Rattle.noise.proofs.Fill.{Filled, fill-starts, fill-turn, fill-ends}
+use Rattle.laws.proofs.Fill.{Filled, fill-starts, fill-turn, fill-ends}
 use Rattle.noise.proofs.Shift.{small-fits, shift-is}
 use Rattle.noise.proofs.line.shifted_line.Statement.{statement}
 use Rattle.noise.proofs.line.shifted_line.Tie as tie

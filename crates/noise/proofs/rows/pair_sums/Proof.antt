@@ -1,10 +1,8 @@
--- `noise::rows::pair_sums` meets its contract: the rows of both planes are grids. Assumes nothing.
-use mathlib.Core.Path.{sym, _∙_}
-use native.Mathlib.Omega.{arith}
+-- `noise::rows::pair_sums` meets its contract: the noise at the places of a view is that of what it shows. Assumes nothing.
+use mathlib.Core.Path.{sym}
 use borrow.Author.Needs.{needs}
-use lib.IntN.{_*ℤ_}
 use lib.Seq.{length-take-le}
-use Rattle.noise.proofs.Grids.{plane-rows, plane-noise, over-plane}
+use Rattle.noise.proofs.Seen.{noise-seen, cross-same}
 use Rattle.noise.proofs.rows.pair_sums.Statement.{statement}
 use Rattle.noise.proofs.rows.pair_sums.Tie as tie
 
@@ -17,32 +15,24 @@ blank-line-requires-2 c κs = search needs
 array-borrow-prefix-p : tie.Need-array-borrow-prefix-p
 array-borrow-prefix-p c = search needs
 
-slice-aggregate-grid-pair : tie.Need-slice-aggregate-grid-pair
-slice-aggregate-grid-pair c = sym (length-take-le (c .before .before .before .before .before .before .before .args .w) (c .before .before .blank-line .result) (search needs))
+slice-aggregate-view-pair : tie.Need-slice-aggregate-view-pair
+slice-aggregate-view-pair c = sym (length-take-le (c .before .before .before .before .before .before .before .args .view .width) (c .before .before .blank-line .result) (search needs))
 
 array-borrow-prefix-q : tie.Need-array-borrow-prefix-q
 array-borrow-prefix-q c = search needs
 
-slice-aggregate-grid-pair-2 : tie.Need-slice-aggregate-grid-pair-2
-slice-aggregate-grid-pair-2 c = sym (length-take-le (c .before .before .before .before .before .before .before .before .args .w) (c .before .before .blank-line2 .result) (search needs))
+slice-aggregate-view-pair-2 : tie.Need-slice-aggregate-view-pair-2
+slice-aggregate-view-pair-2 c = sym (length-take-le (c .before .before .before .before .before .before .before .before .args .view .width) (c .before .before .blank-line2 .result) (search needs))
 
-grid-pair-requires : tie.Need-grid-pair-requires
-grid-pair-requires c κs =
+view-pair-requires : tie.Need-view-pair-requires
+view-pair-requires c κs =
     let S = c .before .before .before .before .before .before .before .before in
-    let w = S .args .w in
-    let first = slice-aggregate-grid-pair (c .before) in
-    rw (sym first)
-    (plane-rows (S .pre .0) 0 w (omega arith), plane-rows (S .pre .1) 0 w (omega arith), S .pre .3, S .pre .2, sym (slice-aggregate-grid-pair-2 c))
+    (S .pre .0, S .pre .1, sym (slice-aggregate-view-pair (c .before)), sym (slice-aggregate-view-pair-2 c))
 
 returns : tie.Need-returns
 returns c =
-    let S = c .before .before .before .before .before .before .before .before .before .before .before in
-    let A = S .args in
-    let same = sym (slice-aggregate-grid-pair (c .before .before .before .before)) in
-    let s = c .before .before .grid-pair .ensures in (
-      s .0 ∙ over-plane (A .h) (A .w) _ _ same (λ r c i. plane-noise (A .src1 .now) (A .den1 .now) (A .w) r c i *ℤ plane-noise (A .src1 .now) (A .den1 .now) (A .w) r c i),
-      s .1 ∙ over-plane (A .h) (A .w) _ _ same (λ r c i. plane-noise (A .src0 .now) (A .den0 .now) (A .w) r c i *ℤ plane-noise (A .src1 .now) (A .den1 .now) (A .w) r c i),
-    )
+    let A = c .before .before .before .before .before .before .before .before .before .before .before .args in
+    cross-same (noise-seen (A .view) (A .src0 .now) (A .den0 .now)) (noise-seen (A .view) (A .src1 .now) (A .den1 .now)) (c .before .before .view-pair .ensures)
 
 pub pair-sums-spec : {M : Type 1} → statement M
 pair-sums-spec =
@@ -51,8 +41,8 @@ pair-sums-spec =
     blank-line-requires
     blank-line-requires-2
     array-borrow-prefix-p
-    slice-aggregate-grid-pair
+    slice-aggregate-view-pair
     array-borrow-prefix-q
-    slice-aggregate-grid-pair-2
-    grid-pair-requires
+    slice-aggregate-view-pair-2
+    view-pair-requires
     returns)

@@ -21,15 +21,15 @@ noise-line-requires-2 : tie.Need-noise-line-requires-2
 noise-line-requires-2 c κs =
     let S = c .before .before .before .before .before .before .before .before in
     let A = S .args in
-    subst (λ (n : ℕ). Places (2 ^ 15) (A .src1 .now) (A .den1 .now) (A .start1) (A .stride1) n) (sym (S .pre .3)) (looser (S .pre .1))
+    subst (λ (n : ℕ). Places (2 ^ 15) (A .src1 .now) (A .den1 .now) (A .start) (A .stride) n) (sym (S .pre .3)) (looser (S .pre .1))
 
 -- the second line, as long as the first
 second : (c : tie.After-q) → let A = c .before .before .before .before .before .before .before .before .before .before .args in
-    c .before .noise-line2 .last .1 .1 .1 .1 .0 ≡ tabulate (length (A .p .now)) (λ i. noise (A .src1 .now) (A .den1 .now) (A .start1 + i * A .stride1))
+    c .before .noise-line2 .last .1 .1 .1 .1 .0 ≡ tabulate (length (A .p .now)) (λ i. noise (A .src1 .now) (A .den1 .now) (A .start + i * A .stride))
 second c =
     let S = c .before .before .before .before .before .before .before .before .before .before in
     let A = S .args in
-    subst (λ (n : ℕ). c .before .noise-line2 .last .1 .1 .1 .1 .0 ≡ tabulate n (λ i. noise (A .src1 .now) (A .den1 .now) (A .start1 + i * A .stride1)))
+    subst (λ (n : ℕ). c .before .noise-line2 .last .1 .1 .1 .1 .0 ≡ tabulate n (λ i. noise (A .src1 .now) (A .den1 .now) (A .start + i * A .stride)))
     (S .pre .3) (c .before .noise-line2 .ensures)
 
 dot-requires : tie.Need-dot-requires
@@ -45,7 +45,7 @@ dot-requires-2 c κs =
     let n = length (A .p .now) in
     let e = c .before .before .before .before .before .before .before .noise-line .ensures in
     let d = second (c .before .before .before) in
-    lines (is-noise (S .pre .0) e (S .pre .2)) (is-noise (S .pre .1) d (S .pre .2)) (size n (λ i. noise (A .src0 .now) (A .den0 .now) (A .start0 + i * A .stride0)) e ∙ sym (size n (λ i. noise (A .src1 .now) (A .den1 .now) (A .start1 + i * A .stride1)) d))
+    lines (is-noise (S .pre .0) e (S .pre .2)) (is-noise (S .pre .1) d (S .pre .2)) (size n (λ i. noise (A .src0 .now) (A .den0 .now) (A .start + i * A .stride)) e ∙ sym (size n (λ i. noise (A .src1 .now) (A .den1 .now) (A .start + i * A .stride)) d))
 
 same-length : tie.Need-same-length
 same-length c = search needs
@@ -57,10 +57,11 @@ returns : tie.Need-returns
 returns c =
     let S = c .before .before .before .before .before .before .before .before .before .before .before .before .before .before in
     let q = second (c .before .before .before .before) in
-    let d = c .before .before .dot in (
-      again (self (record { sfits = d .ok })) .eq ∙ d .ensures ∙ noise-sum (S .pre .1) (S .pre .1) q q,
-      again (self (record { sfits = c .dot2 .ok })) .eq ∙ c .dot2 .ensures ∙ noise-sum (S .pre .0) (S .pre .1) (c .before .before .before .before .before .before .before .before .noise-line .ensures) q,
-    )
+    let d = c .before .before .dot in
+    record {
+      second = again (self (record { sfits = d .ok })) .eq ∙ d .ensures ∙ noise-sum (S .pre .1) (S .pre .1) q q;
+      cross = again (self (record { sfits = c .dot2 .ok })) .eq ∙ c .dot2 .ensures ∙ noise-sum (S .pre .0) (S .pre .1) (c .before .before .before .before .before .before .before .before .noise-line .ensures) q;
+    }
 
 pub row-pair-spec : {M : Type 1} → statement M
 row-pair-spec =

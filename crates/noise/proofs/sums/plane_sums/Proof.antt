@@ -1,12 +1,8 @@
--- `noise::sums::plane_sums` meets its contract: the rows of a plane are a grid. Assumes nothing.
-use mathlib.Core.Path.{sym, ap, _∙_}
-use Prim.Native.Nat.{ℕ, _+_, _-_}
-use native.Mathlib.Omega.{arith}
+-- `noise::sums::plane_sums` meets its contract: the noise at the places of a view is that of what it shows. Assumes nothing.
+use mathlib.Core.Path.{sym}
 use borrow.Author.Needs.{needs}
-use lib.IntN.{_*ℤ_}
 use lib.Seq.{length-take-le}
-use Rattle.noise.specs.Grids.{squared}
-use Rattle.noise.proofs.Grids.{plane-rows, plane-noise, over-plane}
+use Rattle.noise.proofs.Seen.{noise-seen, sums-same}
 use Rattle.noise.proofs.sums.plane_sums.Statement.{statement}
 use Rattle.noise.proofs.sums.plane_sums.Tie as tie
 
@@ -19,33 +15,24 @@ blank-line-requires-2 c κs = search needs
 array-borrow-prefix-p : tie.Need-array-borrow-prefix-p
 array-borrow-prefix-p c = search needs
 
-slice-aggregate-grid-sums : tie.Need-slice-aggregate-grid-sums
-slice-aggregate-grid-sums c = sym (length-take-le (c .before .before .before .before .before .args .w) (c .before .before .blank-line .result) (search needs))
+slice-aggregate-view-sums : tie.Need-slice-aggregate-view-sums
+slice-aggregate-view-sums c = sym (length-take-le (c .before .before .before .before .before .args .view .width) (c .before .before .blank-line .result) (search needs))
 
 array-borrow-prefix-q : tie.Need-array-borrow-prefix-q
 array-borrow-prefix-q c = search needs
 
-slice-aggregate-grid-sums-2 : tie.Need-slice-aggregate-grid-sums-2
-slice-aggregate-grid-sums-2 c = sym (length-take-le (c .before .before .before .before .before .before .args .w) (c .before .before .blank-line2 .result) (search needs))
+slice-aggregate-view-sums-2 : tie.Need-slice-aggregate-view-sums-2
+slice-aggregate-view-sums-2 c = sym (length-take-le (c .before .before .before .before .before .before .args .view .width) (c .before .before .blank-line2 .result) (search needs))
 
-grid-sums-requires : tie.Need-grid-sums-requires
-grid-sums-requires c κs =
+view-sums-requires : tie.Need-view-sums-requires
+view-sums-requires c κs =
     let S = c .before .before .before .before .before .before in
-    let w = S .args .w in
-    let first = slice-aggregate-grid-sums (c .before) in
-    rw (sym first)
-    (plane-rows (S .pre .0) 0 w (omega arith), S .pre .2, S .pre .1, sym (slice-aggregate-grid-sums-2 c), S .pre .3, S .pre .4)
+    (S .pre .0, sym (slice-aggregate-view-sums (c .before)), sym (slice-aggregate-view-sums-2 c), S .pre .1, S .pre .2)
 
 returns : tie.Need-returns
 returns c =
-    let S = c .before .before .before .before .before .before .before .before .before in
-    let A = S .args in
-    let same = sym (slice-aggregate-grid-sums (c .before .before .before .before)) in
-    let s = c .before .before .grid-sums .ensures in (
-      s .0 ∙ over-plane (A .h) (A .w) _ _ same (λ r c. ap (squared (A .shift)) (plane-noise (A .src .now) (A .den .now) (A .w) r c)),
-      s .1 ∙ over-plane (A .h) (A .w) _ _ same (λ r c i. plane-noise (A .src .now) (A .den .now) (A .w) r c i *ℤ plane-noise (A .src .now) (A .den .now) (A .w) r c i),
-      s .2 ∙ over-plane (A .h) (A .w - A .lag) _ _ (ap (λ (n : ℕ). n - A .lag) same) (λ r c i. plane-noise (A .src .now) (A .den .now) (A .w) r c i *ℤ plane-noise (A .src .now) (A .den .now) (A .w) r (c + A .lag) i),
-    )
+    let A = c .before .before .before .before .before .before .before .before .before .args in
+    sums-same (noise-seen (A .view) (A .src .now) (A .den .now)) (c .before .before .view-sums .ensures)
 
 pub plane-sums-spec : {M : Type 1} → statement M
 plane-sums-spec =
@@ -54,8 +41,8 @@ plane-sums-spec =
     blank-line-requires
     blank-line-requires-2
     array-borrow-prefix-p
-    slice-aggregate-grid-sums
+    slice-aggregate-view-sums
     array-borrow-prefix-q
-    slice-aggregate-grid-sums-2
-    grid-sums-requires
+    slice-aggregate-view-sums-2
+    view-sums-requires
     returns)

@@ -45,11 +45,12 @@ returns c =
     let e = c .before .before .before .before .before .before .before .noise-line .ensures in
     let d = c .before .before .before .before .dot in
     let g = c .before .before .before .lagged-dot in
-    let s = c .before .shifted-energy in (
-      again (self (record { sfits = s .ok })) .eq ∙ s .ensures ∙ squares-are (S .pre .0) e (S .args .shift),
-      again (self (record { sfits = d .ok })) .eq ∙ d .ensures ∙ noise-sum (S .pre .0) (S .pre .0) e e,
-      again (self (record { sfits = g .ok })) .eq ∙ g .ensures ∙ lagged-are (S .pre .0) e (S .args .lag),
-    )
+    let s = c .before .shifted-energy in
+    record {
+      squares = again (self (record { sfits = s .ok })) .eq ∙ s .ensures ∙ squares-are (S .pre .0) e (S .args .shift);
+      energy = again (self (record { sfits = d .ok })) .eq ∙ d .ensures ∙ noise-sum (S .pre .0) (S .pre .0) e e;
+      lagged = again (self (record { sfits = g .ok })) .eq ∙ g .ensures ∙ lagged-are (S .pre .0) e (S .args .lag);
+    }
 
 pub row-sums-spec : {M : Type 1} → statement M
 row-sums-spec =

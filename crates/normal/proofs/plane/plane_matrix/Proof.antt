@@ -3,10 +3,10 @@ use mathlib.Core.Path.{sym, _∙_, subst}
 use Prim.Native.Nat.{ℕ, _-_, _*_}
 use native.Mathlib.Omega.{arith}
 use Rattle.noise.specs.Grids.{noiseAt}
-use Rattle.normal.specs.Normal.{side}
+use Rattle.positions.specs.Counts.{side}
+use Rattle.positions.proofs.Counts.{factors-le, neighbours-le}
 use Rattle.normal.specs.Rows.{Plot}
 use Rattle.normal.proofs.Entries.{window-plot, matrix-is}
-use Rattle.normal.proofs.Sizes.{factors-le, neighbours-le}
 use borrow.Author.Needs.{needs}
 use Rattle.normal.proofs.plane.plane_matrix.Statement.{statement}
 use Rattle.normal.proofs.plane.plane_matrix.Tie as tie

@@ -10,7 +10,7 @@ use mir.Val.{Fits}
 use Rattle.laws.specs.Table.{tabulate}
 use Rattle.noise.specs.Lines.{Places}
 use Rattle.noise.specs.Grids.{noiseAt}
-use Rattle.normal.proofs.Sizes.{neighbours-le}
+use Rattle.positions.proofs.Counts.{neighbours-le}
 use Rattle.normal.proofs.Adding.{Adding}
 use Rattle.normal.proofs.TapRows.{gainOf, taps-start, taps-end, first-in, part-in, tap-room, taps-turn}
 use borrow.Author.Needs.{needs}

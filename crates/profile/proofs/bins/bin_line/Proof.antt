@@ -4,7 +4,7 @@ use Prim.Native.Nat.{_-_, _/_, _^_}
 use native.Mathlib.Omega.{arith}
 use borrow.Author.Needs.{needs}
 use lib.ListN.{length, getD, length-set}
-use Rattle.noise.proofs.Fill.{Filled, fill-starts, fill-turn, fill-ends}
+use Rattle.laws.proofs.Fill.{Filled, fill-starts, fill-turn, fill-ends}
 use Rattle.profile.proofs.bins.bin_line.Statement.{statement}
 use Rattle.profile.proofs.bins.bin_line.Tie as tie
 

@@ -10,7 +10,7 @@ use lib.ListN.{length, getD, length-set}
 use mir.Syntax.{w16}
 use Rattle.laws.proofs.Is.{again, self}
 use Rattle.noise.specs.Lines.{at}
-use Rattle.noise.proofs.Fill.{Filled, fill-starts, fill-turn, fill-ends}
+use Rattle.laws.proofs.Fill.{Filled, fill-starts, fill-turn, fill-ends}
 use Rattle.profile.proofs.bins.kept_line.Statement.{statement}
 use Rattle.profile.proofs.bins.kept_line.Tie as tie
 

@@ -12,8 +12,8 @@ use Rattle.profile.proofs.Answered.{estimate-refused, estimate-accepted
 use Rattle.profile.proofs.estimate.noise_estimate.Statement.{statement}
 use Rattle.profile.proofs.estimate.noise_estimate.Tie as tie
 
-frame-refusal-requires : tie.Need-frame-refusal-requires
-frame-refusal-requires c κs = search needs
+frame-numbers-requires : tie.Need-frame-numbers-requires
+frame-numbers-requires c κs = search needs
 
 refused-requires : tie.Need-refused-requires
 refused-requires c κs = search needs
@@ -24,14 +24,14 @@ returns c =
     let z = c .before .if1 .taken in
     c .refused .ensures
     ∙ estimate-refused (A .s) (A .y .now) (A .cb .now) (A .cr .now) (A .dy .now) (A .dcb .now) (A .dcr .now)
-    (frame-stopped (A .s) (A .y .now) (A .cb .now) (A .cr .now) (A .dy .now) (A .dcb .now) (A .dcr .now) (c .before .before .frame-refusal .ensures) z) z
+    (frame-stopped (A .s) (A .y .now) (A .cb .now) (A .cr .now) (A .dy .now) (A .dcb .now) (A .dcr .now) (c .before .before .frame-numbers .ensures) z) z
 
 -- what the numbers tell of the planes
 pairs : (c : tie.Else1) → let A = c .before .before .before .before .before .before .before .before .args in
     Pair (2 ^ 24) (A .s .depth) (A .y .now) (A .dy .now) × Pair (2 ^ 24) (A .s .depth) (A .cb .now) (A .dcb .now) × Pair (2 ^ 24) (A .s .depth) (A .cr .now) (A .dcr .now)
 pairs c =
     let A = c .before .before .before .before .before .before .before .before .args in
-    frame-pairs (A .s) (A .y .now) (A .cb .now) (A .cr .now) (A .dy .now) (A .dcb .now) (A .dcr .now) (c .before .frame-refusal .ensures) (c .if1 .left)
+    frame-pairs (A .s) (A .y .now) (A .cb .now) (A .cr .now) (A .dy .now) (A .dcb .now) (A .dcr .now) (c .before .frame-numbers .ensures) (c .if1 .left)
 
 -- the answers about samples: not all are low
 six : (c : tie.Else1) {l b r : Bool} → let A = c .before .before .before .before .before .before .before .before .args in
@@ -41,7 +41,7 @@ six c p q t e =
     let A = c .before .before .before .before .before .before .before .before .args in
     estimate-refused (A .s) (A .y .now) (A .cb .now) (A .cr .now) (A .dy .now) (A .dcb .now) (A .dcr .now)
     (sym
-    (frame-asked (A .s) (A .y .now) (A .cb .now) (A .cr .now) (A .dy .now) (A .dcb .now) (A .dcr .now) (c .before .frame-refusal .ensures) (c .if1 .left) p q t
+    (frame-asked (A .s) (A .y .now) (A .cb .now) (A .cr .now) (A .dy .now) (A .dcb .now) (A .dcr .now) (c .before .frame-numbers .ensures) (c .if1 .left) p q t
     ∙ ap (λ (x : Bool). cond x 0 6) e))
     (λ d. omega arith)
 
@@ -89,14 +89,14 @@ returns-5 c =
     let B = c .before .before .before .before .before .before .before .before .chroma-profile .ensures in
     let R = c .before .before .before .before .before .chroma-profile2 .ensures in
     estimate-accepted (A .s) (A .y .now) (A .cb .now) (A .cr .now) (A .dy .now) (A .dcb .now) (A .dcr .now)
-    (frame-asked (A .s) (A .y .now) (A .cb .now) (A .cr .now) (A .dy .now) (A .dcb .now) (A .dcr .now) (c .before .before .before .before .before .before .before .before .before .before .before .before .before .frame-refusal .ensures) (c .before .before .before .before .before .before .before .before .before .before .before .before .if1 .left) (sym l ∙ L .0) (sym b ∙ B .0) (sym r ∙ R .0))
+    (frame-asked (A .s) (A .y .now) (A .cb .now) (A .cr .now) (A .dy .now) (A .dcb .now) (A .dcr .now) (c .before .before .before .before .before .before .before .before .before .before .before .before .before .frame-numbers .ensures) (c .before .before .before .before .before .before .before .before .before .before .before .before .if1 .left) (sym l ∙ L .0) (sym b ∙ B .0) (sym r ∙ R .0))
     (L .1 l) (B .1 b) (R .1 r)
 
 pub noise-estimate-spec : {M : Type 1} → statement M
 noise-estimate-spec =
     tie.close
     (tie.spec
-    frame-refusal-requires
+    frame-numbers-requires
     refused-requires
     returns
     luma-profile-requires

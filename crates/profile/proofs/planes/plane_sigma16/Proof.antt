@@ -6,7 +6,7 @@ use native.Mathlib.Omega.{arith}
 use borrow.Author.Needs.{needs}
 use borrow.Author.Tests.{not-true, not-false}
 use lib.ListN.{length}
-use Rattle.frame.specs.Calls.{deepPlaneRefusal}
+use Rattle.frame.specs.Calls.{pairRefusal}
 use Rattle.float.specs.Steps.{sigma16Of}
 use Rattle.profile.specs.Steps.{planeSigma16}
 use Rattle.profile.proofs.Asked.{plane-stopped, plane-asked, plane-pair}
@@ -14,26 +14,26 @@ use Rattle.profile.proofs.Answered.{sigma-refused, sigma-accepted}
 use Rattle.profile.proofs.planes.plane_sigma16.Statement.{statement}
 use Rattle.profile.proofs.planes.plane_sigma16.Tie as tie
 
-deep-plane-refusal-requires : tie.Need-deep-plane-refusal-requires
-deep-plane-refusal-requires c κs = search needs
+pair-numbers-requires : tie.Need-pair-numbers-requires
+pair-numbers-requires c κs = search needs
 
 returns : tie.Need-returns
 returns c =
     let A = c .before .before .before .before .args in
     sigma-refused (A .width) (A .height) (A .depth) (A .src .now) (A .den .now)
-    (plane-stopped (A .width) (A .height) (A .depth) (A .src .now) (A .den .now) (c .before .deep-plane-refusal .ensures) (c .if1 .taken)) (c .if1 .taken)
+    (plane-stopped (A .width) (A .height) (A .depth) (A .src .now) (A .den .now) (c .before .pair-numbers .ensures) (c .if1 .taken)) (c .if1 .taken)
 
 plane-squares-requires : tie.Need-plane-squares-requires
 plane-squares-requires c κs =
     let A = c .before .before .before .before .args in
-    plane-pair (A .width) (A .height) (A .depth) (A .src .now) (A .den .now) (c .before .deep-plane-refusal .ensures) (c .if1 .left)
+    plane-pair (A .width) (A .height) (A .depth) (A .src .now) (A .den .now) (c .before .pair-numbers .ensures) (c .if1 .left)
 
 -- the number, once the samples are asked about
 asked : (c : tie.After-plane-squares) → let A = c .before .before .before .before .before .args in
-    deepPlaneRefusal (A .width) (A .height) (A .depth) (A .src .now) (A .den .now) ≡ cond (c .plane-squares .result .low) 0 6
+    pairRefusal (A .width) (A .height) (A .depth) (A .src .now) (A .den .now) ≡ cond (c .plane-squares .result .low) 0 6
 asked c =
     let A = c .before .before .before .before .before .args in
-    plane-asked (A .width) (A .height) (A .depth) (A .src .now) (A .den .now) (c .before .before .deep-plane-refusal .ensures) (c .before .if1 .left) (c .plane-squares .ensures .0)
+    plane-asked (A .width) (A .height) (A .depth) (A .src .now) (A .den .now) (c .before .before .pair-numbers .ensures) (c .before .if1 .left) (c .plane-squares .ensures .0)
 
 returns-2 : tie.Need-returns-2
 returns-2 c =
@@ -56,7 +56,7 @@ pub plane-sigma16-spec : {M : Type 1} → statement M
 plane-sigma16-spec =
     tie.close
     (tie.spec
-    deep-plane-refusal-requires
+    pair-numbers-requires
     returns
     plane-squares-requires
     returns-2

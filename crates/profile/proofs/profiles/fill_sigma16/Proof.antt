@@ -3,7 +3,7 @@ use Prim.Native.Nat.{_-_}
 use native.Mathlib.Omega.{arith}
 use borrow.Author.Needs.{needs}
 use lib.ListN.{length, getD, length-set}
-use Rattle.noise.proofs.Fill.{Filled, fill-starts, fill-turn, fill-ends}
+use Rattle.laws.proofs.Fill.{Filled, fill-starts, fill-turn, fill-ends}
 use Rattle.profile.specs.Steps.{sigmaOfBin}
 use Rattle.profile.proofs.profiles.fill_sigma16.Statement.{statement}
 use Rattle.profile.proofs.profiles.fill_sigma16.Tie as tie

@@ -1,0 +1,38 @@
+-- `chroma_correlation::tap`: the exact sums as f64, then one division. Assumes nothing.
+use mathlib.Core.Path.{_∙_, ap}
+use borrow.Author.Needs.{needs}
+use lib.Ieee.{Float, binary64, div}
+use mir.Syntax.{w32}
+use mir.ValLaws.{toZ-ofZ}
+use Rattle.float.specs.Steps.{sixteen}
+use Rattle.chroma_correlation.proofs.Averages.{four, in-sixteenths, in-quarters}
+use Rattle.chroma_correlation.proofs.Taps.{flat, quotient}
+use Rattle.chroma_correlation.proofs.tap.Statement.{statement}
+use Rattle.chroma_correlation.proofs.tap.Tie as tie
+
+nearest-i64-to-f64-requires : tie.Need-nearest-i64-to-f64-requires
+nearest-i64-to-f64-requires c κs = search needs
+
+returns : tie.Need-returns
+returns c =
+    let S = c .before .before in
+    flat _ _ _ (ap (λ (x : Float). div binary64 x sixteen) (c .before .nearest-i64-to-f64 .ensures) ∙ in-sixteenths (S .args .squares) (S .pre .1)) (c .if1 .taken)
+
+nearest-i64-to-f64-requires-2 : tie.Need-nearest-i64-to-f64-requires-2
+nearest-i64-to-f64-requires-2 c κs = search needs
+
+quant-ar-requires : tie.Need-quant-ar-requires
+quant-ar-requires c κs = search needs
+
+returns-2 : tie.Need-returns-2
+returns-2 c =
+    let i = c .before .before in
+    let S = i .before .before in
+    toZ-ofZ w32 (c .quant-ar .result) (record { sfits = c .quant-ar .ok })
+    ∙ quotient _ _ _ (ap (λ (x : Float). div binary64 x sixteen) (i .before .nearest-i64-to-f64 .ensures) ∙ in-sixteenths (S .args .squares) (S .pre .1)) _ _
+    (ap (λ (x : Float). div binary64 x four) (c .before .nearest-i64-to-f642 .ensures) ∙ in-quarters (S .args .products) (S .pre .0)) (i .if1 .left) (c .quant-ar .ensures)
+
+pub tap-spec : {M : Type 1} → statement M
+tap-spec =
+    tie.close
+    (tie.spec nearest-i64-to-f64-requires returns nearest-i64-to-f64-requires-2 quant-ar-requires returns-2)

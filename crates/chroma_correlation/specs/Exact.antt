@@ -1,0 +1,11 @@
+-- "Sum of luma average × chroma noise over sum of squared averages, quantised; 0 if the latter is at most 1e-9", from the exact sums.
+use mathlib.Core.Bool.{cond}
+use lib.IntN.{ℤ, pos}
+use lib.Ieee.{binary64, div, le}
+use Rattle.laws.specs.Scaled.{ofScaled}
+use Rattle.float.specs.Steps.{quantAr}
+use Rattle.chroma_correlation.specs.Steps.{tiny}
+
+-- the products are in quarters, the squares in sixteenths
+unfoldable pub tapOf : ℤ → ℤ → ℤ
+tapOf products squares = cond (le (ofScaled 4 squares) tiny) (pos 0) (quantAr (div binary64 (ofScaled 2 products) (ofScaled 4 squares)))

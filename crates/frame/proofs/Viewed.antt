@@ -1,0 +1,34 @@
+-- A view's samples, by row and column; and the view of a whole plane is the plane. By the laws of `tabulate`, and of quotient and remainder. Assumes nothing.
+use mathlib.Core.Path.{_≡_, sym, ap, _∙_}
+use mathlib.Core.List.{List}
+use Prim.Native.Nat.{ℕ, _+_, _*_, _/_, _%_, _<_}
+use native.Mathlib.Nat.{le-of-eq, lt-of-lt-of-le, mul-comm, div-add-mod'}
+use native.Mathlib.Omega.{arith}
+use lib.Arith.{digits-lt, digits-div, digits-mod}
+use lib.ListN.{length, getD}
+use lib.Seq.{ext-getD}
+use Rattle.laws.specs.Table.{tabulate}
+use Rattle.laws.proofs.Table.{length-tabulate, getD-tabulate}
+use Rattle.frame.specs.View.{placeAt, viewed, whole}
+use Rattle.frame.specs.declared.view.View.{View}
+
+pub viewed-length : (v : View) (plane : List ℕ) → length (viewed v plane) ≡ v .width * v .height
+unfolding viewed
+viewed-length v plane = length-tabulate _ _
+
+-- the sample at row r and column c
+pub viewed-at : (v : View) (plane : List ℕ) (r c : ℕ) → r < v .height → c < v .width → getD (viewed v plane) (r * v .width + c) 0 ≡ getD plane (placeAt v r c) 0
+unfolding viewed
+viewed-at v plane r c l m =
+    getD-tabulate _ _ _ 0 (lt-of-lt-of-le (digits-lt l m) (le-of-eq (mul-comm (v .height) (v .width))))
+    ∙ ap (λ (n : ℕ). getD plane n 0) (λ i. placeAt v (digits-div r m i) (digits-mod r m i))
+
+-- the view of a whole plane is the plane
+pub viewed-whole : (w h : ℕ) (plane : List ℕ) → length plane ≡ w * h → viewed (whole w h) plane ≡ plane
+unfolding viewed
+viewed-whole w h plane e =
+    ext-getD 0 (viewed (whole w h) plane) plane (viewed-length (whole w h) plane ∙ sym e)
+    (λ i l. getD-tabulate _ _ i 0 (lt-of-lt-of-le l (le-of-eq (viewed-length (whole w h) plane))) ∙ ap (λ (n : ℕ). getD plane n 0) (back i))
+  where
+    back : (i : ℕ) → 0 + i / w * w + i % w * 1 ≡ i
+    back i = omega (arith, div-add-mod' i w)

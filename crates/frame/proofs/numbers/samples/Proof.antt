@@ -1,0 +1,23 @@
+-- `frame::numbers::samples` meets its contract: a plane's sides are no longer than luma's, which are within the limit. Assumes nothing.
+use borrow.Author.Needs.{needs}
+use Rattle.frame.proofs.Size.{area-fits, width-le, height-le}
+use Rattle.frame.proofs.numbers.samples.Statement.{statement}
+use Rattle.frame.proofs.numbers.samples.Tie as tie
+
+width-of-requires : tie.Need-width-of-requires
+width-of-requires c κs = search needs
+
+height-of-requires : tie.Need-height-of-requires
+height-of-requires c κs = search needs
+
+mul-result : tie.Need-mul-result
+mul-result c =
+    let S = c .before .before in
+    rw (c .before .width-of .ensures, c .height-of .ensures)
+    (area-fits (width-le (S .args .s) (S .args .component) (S .pre .0)) (height-le (S .args .s) (S .args .component) (S .pre .1)))
+
+returns : tie.Need-returns
+returns c = cc
+
+pub samples-spec : {M : Type 1} → statement M
+samples-spec = tie.close (tie.spec width-of-requires height-of-requires mul-result returns)

@@ -1,0 +1,62 @@
+-- `frame::numbers::shape_numbers` meets its contract, a question at a time. Assumes nothing.
+use mathlib.Core.Path.{refl}
+use mathlib.Core.List.{[], _∷_}
+use Rattle.frame.specs.Questions.{small, present, depthKnown, formatKnown}
+use Rattle.frame.specs.Calls.{shapeNumbers}
+use Rattle.frame.proofs.Refusal.{asked}
+use borrow.Author.Needs.{needs}
+use Rattle.frame.proofs.numbers.shape_numbers.Statement.{statement}
+use Rattle.frame.proofs.numbers.shape_numbers.Tie as tie
+
+is-small-requires : tie.Need-is-small-requires
+is-small-requires c κs = search needs
+
+ask-requires : tie.Need-ask-requires
+ask-requires c κs = search needs
+
+is-present-requires : tie.Need-is-present-requires
+is-present-requires c κs = search needs
+
+ask-requires-2 : tie.Need-ask-requires-2
+ask-requires-2 c κs = search needs
+
+depth-known-requires : tie.Need-depth-known-requires
+depth-known-requires c κs = search needs
+
+ask-requires-3 : tie.Need-ask-requires-3
+ask-requires-3 c κs = search needs
+
+format-known-requires : tie.Need-format-known-requires
+format-known-requires c κs = search needs
+
+ask-requires-4 : tie.Need-ask-requires-4
+ask-requires-4 c κs = search needs
+
+returns : tie.Need-returns
+unfolding shapeNumbers
+returns c =
+    let c₃ = c .before .before in
+    let c₂ = c₃ .before .before in
+    let c₁ = c₂ .before .before in
+    let s = c₁ .before .before .args .s in
+    let q₁ = small (s .width) (s .height) in
+    let q₂ = present (s .width) (s .height) in
+    let q₃ = depthKnown (s .depth) in
+    let e₁ = asked [] refl refl q₁ (c₁ .ask .ensures) (c₁ .before .is-small .ensures) in
+    let e₂ = asked (q₁ ∷ []) refl e₁ q₂ (c₂ .ask2 .ensures) (c₂ .before .is-present .ensures) in
+    let e₃ = asked (q₁ ∷ q₂ ∷ []) refl e₂ q₃ (c₃ .ask3 .ensures) (c₃ .before .depth-known .ensures) in
+    asked (q₁ ∷ q₂ ∷ q₃ ∷ []) refl e₃ (formatKnown (s .format)) (c .ask4 .ensures) (c .before .format-known .ensures)
+
+pub shape-numbers-spec : {M : Type 1} → statement M
+shape-numbers-spec =
+    tie.close
+    (tie.spec
+    is-small-requires
+    ask-requires
+    is-present-requires
+    ask-requires-2
+    depth-known-requires
+    ask-requires-3
+    format-known-requires
+    ask-requires-4
+    returns)

@@ -1,0 +1,33 @@
+-- `gate::tests::second_finding`: each return is one of the laws of its tests. Assumes nothing.
+use mathlib.Core.Bool.{true, false}
+use borrow.Author.Needs.{needs}
+use Rattle.gate.proofs.Findings.{second-none, second-is}
+use Rattle.gate.proofs.finding.second_finding.Statement.{statement}
+use Rattle.gate.proofs.finding.second_finding.Tie as tie
+
+of-pair-requires : tie.Need-of-pair-requires
+of-pair-requires c κs = search needs
+
+returns : tie.Need-returns
+returns c = second-none _ _ _ (c .before .of-pair .ensures .0) (c .if1 .taken)
+
+sqrt-requires : tie.Need-sqrt-requires
+sqrt-requires c κs = search needs
+
+magnitude-requires : tie.Need-magnitude-requires
+magnitude-requires c κs = search needs
+
+returns-2 : tie.Need-returns-2
+returns-2 c =
+    let s = c .before .before .before .before .of-pair .ensures in
+    second-is _ _ _ (s .0) (c .before .before .before .if1 .left) _ _ _ _ true (s .1) (c .before .before .before .before .before .before .before .before .before .pre .4) (c .before .before .sqrt .ensures) (c .before .magnitude .ensures) (c .if2 .taken)
+
+returns-3 : tie.Need-returns-3
+returns-3 c =
+    let s = c .before .before .before .before .of-pair .ensures in
+    second-is _ _ _ (s .0) (c .before .before .before .if1 .left) _ _ _ _ false (s .1) (c .before .before .before .before .before .before .before .before .before .pre .4) (c .before .before .sqrt .ensures) (c .before .magnitude .ensures) (c .if2 .left)
+
+pub second-finding-spec : {M : Type 1} → statement M
+second-finding-spec =
+    tie.close
+    (tie.spec of-pair-requires returns sqrt-requires magnitude-requires returns-2 returns-3)

@@ -1,0 +1,27 @@
+-- `gate::correlations::row_correlation`: the sums, then the quotient. Assumes nothing.
+use borrow.Author.Needs.{needs}
+use Rattle.gate.proofs.Rows.{unlagged, narrow, row-is}
+use Rattle.gate.proofs.row_correlation.row_correlation.Statement.{statement}
+use Rattle.gate.proofs.row_correlation.row_correlation.Tie as tie
+
+returns : tie.Need-returns
+returns c = unlagged _ _ (c .if1 .taken)
+
+returns-2 : tie.Need-returns-2
+returns-2 c = narrow _ _ (c .before .if1 .left) (c .if2 .taken)
+
+of-plane-requires : tie.Need-of-plane-requires
+of-plane-requires c κs = search needs
+
+correlation-of-requires : tie.Need-correlation-of-requires
+correlation-of-requires c κs = search needs
+
+returns-3 : tie.Need-returns-3
+returns-3 c =
+    let s = c .before .of-plane .ensures in
+    row-is _ _ (s .1) (s .2) (c .correlation-of .ensures)
+
+pub row-correlation-spec : {M : Type 1} → statement M
+row-correlation-spec =
+    tie.close
+    (tie.spec returns returns-2 of-plane-requires correlation-of-requires returns-3)
