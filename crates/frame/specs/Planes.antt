@@ -1,9 +1,11 @@
 -- "planes Y, Cb, Cr in row order": the size of each plane of a frame, and what a call sees of it.
 use Prim.Native.Nat.{ℕ, _*_}
-use Rattle.frame.specs.Size.{chromaWidth, chromaHeight}
+use Rattle.frame.specs.Size.{chromaWidth, chromaHeight, subX, subY}
 use Rattle.frame.specs.View.{whole}
 use Rattle.frame.specs.declared.Shape.{Shape}
 use Rattle.frame.specs.declared.view.View.{View}
+use Rattle.frame.specs.declared.view.Sampling.{Sampling}
+use Rattle.frame.specs.declared.view.Geometry.{Geometry}
 use Rattle.frame.specs.declared.view.Component.{Component}
 use Rattle.frame.specs.declared.view.Component.the-variants.{Y, CbCr}
 
@@ -20,3 +22,9 @@ samplesOf s component = widthOf s component * heightOf s component
 
 abbrev pub viewOf : Shape → Component → View
 viewOf s component = whole (widthOf s component) (heightOf s component)
+
+abbrev pub samplingOf : Shape → Sampling
+samplingOf s = record { across = subX (s .format); down = subY (s .format) }
+
+abbrev pub geometryOf : Shape → Geometry
+geometryOf s = record { luma = viewOf s Y; chroma = viewOf s CbCr; sampling = samplingOf s }

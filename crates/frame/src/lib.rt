@@ -17,12 +17,14 @@ pub use refusals::frame_refusal;
 pub use refusals::gate_refusal;
 pub use refusals::pair_refusal;
 pub use view::Component;
+pub use view::Geometry;
+pub use view::Sampling;
 pub use view::View;
 ghost use mathlib.Core.Path.{_≡_};
 ghost use mathlib.Core.Bool.{cond};
 ghost use Prim.Native.Nat.{_+_, _/_};
-ghost use Rattle.frame.specs.Size.{chromaWidth, chromaHeight, subX, subY};
-ghost use Rattle.frame.specs.Planes.{widthOf, heightOf, viewOf};
+ghost use Rattle.frame.specs.Size.{chromaWidth, chromaHeight};
+ghost use Rattle.frame.specs.Planes.{widthOf, heightOf, viewOf, samplingOf, geometryOf};
 
 // The largest width and the largest height.
 pub const SIDE_LIMIT: usize = 4096;
@@ -56,6 +58,13 @@ fn chroma_side(absent: bool, halved: bool, x: usize) -> usize
     x
 }
 
+// 1 for yes, 0 for no
+fn bit(b: bool) -> usize
+    ensures { λ r. ⌜ r ≡ cond b 1 0 ⌝ }
+{
+    if b { 1 } else { 0 }
+}
+
 impl Shape {
     // 0, (w + 1) / 2 or w
     pub fn chroma_width(self) -> usize
@@ -71,18 +80,13 @@ impl Shape {
         chroma_side(self.format == 0, self.format == 1, self.height)
     }
 
-    // 1 where the format halves the columns, else 0.
-    pub fn sub_x(self) -> usize
-        ensures { λ r. ⌜ r ≡ subX (self .format) ⌝ }
+    // What the format halves: the columns, and the rows.
+    pub fn sampling(self) -> Sampling
+        ensures { λ r. ⌜ r ≡ samplingOf self ⌝ }
     {
-        if self.format <= 2 { 1 } else { 0 }
-    }
-
-    // 1 where the format halves the rows, else 0.
-    pub fn sub_y(self) -> usize
-        ensures { λ r. ⌜ r ≡ subY (self .format) ⌝ }
-    {
-        if self.format <= 1 { 1 } else { 0 }
+        let across = bit(self.format <= 2);
+        let down = bit(self.format <= 1);
+        Sampling { across, down }
     }
 
     // The columns of a plane.
@@ -117,6 +121,19 @@ impl Shape {
             stride: 1,
             width,
             height,
+        }
+    }
+    // What a call sees of a frame.
+    pub fn geometry(self) -> Geometry
+        ensures { λ r. ⌜ r ≡ geometryOf self ⌝ }
+    {
+        let luma = self.view(Component::Y);
+        let chroma = self.view(Component::CbCr);
+        let sampling = self.sampling();
+        Geometry {
+            luma,
+            chroma,
+            sampling,
         }
     }
 }

@@ -14,3 +14,16 @@ pub enum Component {
     Y,
     CbCr,
 }
+
+// How many luma samples make a chroma sample: 1 where the format halves the columns, and the rows, else 0.
+pub struct Sampling {
+    pub across: usize,
+    pub down: usize,
+}
+
+// What a call sees of a frame: of luma, and of either chroma plane.
+pub struct Geometry {
+    pub luma: View,
+    pub chroma: View,
+    pub sampling: Sampling,
+}

@@ -13,17 +13,8 @@ use Rattle.chroma_correlation.proofs.Answers.{refused, answered}
 use Rattle.chroma_correlation.proofs.fit_chroma_corr.Statement.{statement}
 use Rattle.chroma_correlation.proofs.fit_chroma_corr.Tie as tie
 
-frame-refusal-requires : tie.Need-frame-refusal-requires
-frame-refusal-requires c κs = search needs
-
 returns : tie.Need-returns
 returns c = refused _ _ _ _ _ _ _ _ (c .before .frame-refusal .ensures) (c .if1 .taken)
-
-chroma-width-requires : tie.Need-chroma-width-requires
-chroma-width-requires c κs = search needs
-
-chroma-height-requires : tie.Need-chroma-height-requires
-chroma-height-requires c κs = search needs
 
 -- the components of an accepted frame
 module _ (c : tie.After-chroma-height) where
@@ -66,10 +57,10 @@ pub fit-chroma-corr-spec : {M : Type 1} → statement M
 fit-chroma-corr-spec =
     tie.close
     (tie.spec
-    frame-refusal-requires
+    (λ c κs. search needs)
     returns
-    chroma-width-requires
-    chroma-height-requires
+    (λ c κs. search needs)
+    (λ c κs. search needs)
     average-products-requires
     tap-requires
     tap-requires-2

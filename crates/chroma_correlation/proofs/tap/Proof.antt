@@ -10,19 +10,10 @@ use Rattle.chroma_correlation.proofs.Taps.{flat, quotient}
 use Rattle.chroma_correlation.proofs.tap.Statement.{statement}
 use Rattle.chroma_correlation.proofs.tap.Tie as tie
 
-nearest-i64-to-f64-requires : tie.Need-nearest-i64-to-f64-requires
-nearest-i64-to-f64-requires c κs = search needs
-
 returns : tie.Need-returns
 returns c =
     let S = c .before .before in
     flat _ _ _ (ap (λ (x : Float). div binary64 x sixteen) (c .before .nearest-i64-to-f64 .ensures) ∙ in-sixteenths (S .args .squares) (S .pre .1)) (c .if1 .taken)
-
-nearest-i64-to-f64-requires-2 : tie.Need-nearest-i64-to-f64-requires-2
-nearest-i64-to-f64-requires-2 c κs = search needs
-
-quant-ar-requires : tie.Need-quant-ar-requires
-quant-ar-requires c κs = search needs
 
 returns-2 : tie.Need-returns-2
 returns-2 c =
@@ -35,4 +26,4 @@ returns-2 c =
 pub tap-spec : {M : Type 1} → statement M
 tap-spec =
     tie.close
-    (tie.spec nearest-i64-to-f64-requires returns nearest-i64-to-f64-requires-2 quant-ar-requires returns-2)
+    (tie.spec (λ c κs. search needs) returns (λ c κs. search needs) (λ c κs. search needs) returns-2)

@@ -17,9 +17,6 @@ lent c = planes (c .args .y .now) (c .args .cb .now) (c .args .cr .now)
 abbrev held : tie.Start → Planes
 held c = planes (c .args .dy .now) (c .args .dcb .now) (c .args .dcr .now)
 
-denoise-frame-refusal-requires : tie.Need-denoise-frame-refusal-requires
-denoise-frame-refusal-requires c κs = search needs
-
 returns : tie.Need-returns
 returns c =
     let S = c .before .before .before .before .before .before .before .before in
@@ -29,12 +26,6 @@ returns c =
 known : (c : tie.Else1) → let A = c .before .before .before .before .before .before .before .before .args in
     DenoiseFrameCall (A .s) (A .y .now) (A .cb .now) (A .cr .now) (length (A .dy .now)) (length (A .dcb .now)) (length (A .dcr .now))
 known c = denoise-frame-call _ _ _ _ _ _ _ (sym (c .before .denoise-frame-refusal .ensures) ∙ c .if1 .left)
-
-chroma-width-requires : tie.Need-chroma-width-requires
-chroma-width-requires c κs = search needs
-
-chroma-height-requires : tie.Need-chroma-height-requires
-chroma-height-requires c κs = search needs
 
 smooth-plane-requires : tie.Need-smooth-plane-requires
 smooth-plane-requires c κs = let k = known (c .before .before .before) in (k .shape .size .wide, k .source .y .samples, k .to-y)
@@ -51,15 +42,6 @@ smooth-plane-requires-3 c κs =
     let k = known (H .before .before) in
     rw (H .before .chroma-width .ensures, H .chroma-height .ensures) (le-trans (chroma-width-le _ _) (k .shape .size .wide), k .source .cr .samples, k .to-cr)
 
-same-length : tie.Need-same-length
-same-length c = search needs
-
-same-length-2 : tie.Need-same-length-2
-same-length-2 c = search needs
-
-same-length-3 : tie.Need-same-length-3
-same-length-3 c = search needs
-
 returns-2 : tie.Need-returns-2
 unfolding denoisedFrame
 returns-2 c =
@@ -74,14 +56,14 @@ pub denoise-frame-spec : {M : Type 1} → statement M
 denoise-frame-spec =
     tie.close
     (tie.spec
-    denoise-frame-refusal-requires
+    (λ c κs. search needs)
     returns
-    chroma-width-requires
-    chroma-height-requires
+    (λ c κs. search needs)
+    (λ c κs. search needs)
     smooth-plane-requires
     smooth-plane-requires-2
     smooth-plane-requires-3
-    same-length
-    same-length-2
-    same-length-3
+    (λ c. search needs)
+    (λ c. search needs)
+    (λ c. search needs)
     returns-2)

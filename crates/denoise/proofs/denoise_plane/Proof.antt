@@ -7,9 +7,6 @@ use Rattle.denoise.proofs.Calls.{plane-refused, plane-accepted}
 use Rattle.denoise.proofs.denoise_plane.Statement.{statement}
 use Rattle.denoise.proofs.denoise_plane.Tie as tie
 
-plane-refusal-requires : tie.Need-plane-refusal-requires
-plane-refusal-requires c κs = search needs
-
 returns : tie.Need-returns
 returns c =
     let A = c .before .before .before .before .args in
@@ -22,9 +19,6 @@ known c = plane-call _ _ _ _ (sym (c .before .plane-refusal .ensures) ∙ c .if1
 smooth-plane-requires : tie.Need-smooth-plane-requires
 smooth-plane-requires c κs = let k = known (c .before) in (k .size .wide, k .source, k .destination)
 
-same-length : tie.Need-same-length
-same-length c = search needs
-
 returns-2 : tie.Need-returns-2
 returns-2 c =
     let E = c .before .before .before .before in
@@ -33,4 +27,4 @@ returns-2 c =
 
 pub denoise-plane-spec : {M : Type 1} → statement M
 denoise-plane-spec =
-    tie.close (tie.spec plane-refusal-requires returns smooth-plane-requires same-length returns-2)
+    tie.close (tie.spec (λ c κs. search needs) returns smooth-plane-requires (λ c. search needs) returns-2)

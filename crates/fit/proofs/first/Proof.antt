@@ -19,24 +19,6 @@ abbrev μ-loop : tie.MeasureT-loop
 loop-holds : tie.Need-loop-holds Inv-loop μ-loop
 loop-holds c = fill-starts _ _
 
-mul-out : tie.Need-mul-out Inv-loop μ-loop
-mul-out c = search needs
-
-array-copy-out-out : tie.Need-array-copy-out-out Inv-loop μ-loop
-array-copy-out-out c = search needs
-
-mul-out-2 : tie.Need-mul-out-2 Inv-loop μ-loop
-mul-out-2 c = search needs
-
-array-set-from-out : tie.Need-array-set-from-out Inv-loop μ-loop
-array-set-from-out c = search needs
-
-add-i : tie.Need-add-i Inv-loop μ-loop
-add-i c = search needs
-
-loop-less : tie.Need-loop-less Inv-loop μ-loop
-loop-less c = search needs
-
 loop-again : tie.Need-loop-again Inv-loop μ-loop
 loop-again c = fill-turn _ _ _ (c .before .before .loop .inv) (search needs) (toZ-ofZ w32 _ (record { sfits = c .out .given }))
 
@@ -51,11 +33,11 @@ first-spec =
     Inv-loop
     μ-loop
     loop-holds
-    mul-out
-    array-copy-out-out
-    mul-out-2
-    array-set-from-out
-    add-i
-    loop-less
+    (λ c. search needs)
+    (λ c. search needs)
+    (λ c. search needs)
+    (λ c. search needs)
+    (λ c. search needs)
+    (λ c. search needs)
     loop-again
     returns)

@@ -16,12 +16,6 @@ use Rattle.fit.proofs.fit_ar_lag.Tie as tie
 granted : (c : tie.Else1) → (let a = c .before .before .before .before .before .before .before .before .args in FitCall (a .s) (now (a .y)) (now (a .cb)) (now (a .cr)) (now (a .dy)) (now (a .dcb)) (now (a .dcr)) (a .lag))
 granted c = fit-call _ _ _ _ _ _ _ _ (sym (c .before .fit-refusal .ensures) ∙ c .if1 .left)
 
-fit-refusal-requires : tie.Need-fit-refusal-requires
-fit-refusal-requires c κs = search needs
-
-unfitted-requires : tie.Need-unfitted-requires
-unfitted-requires c κs = search needs
-
 returns : tie.Need-returns
 returns c = c .unfitted .ensures ∙ refused _ _ _ _ _ _ _ _ _ (c .before .before .fit-refusal .ensures) (c .before .if1 .taken)
 
@@ -37,26 +31,14 @@ mul-count-2 c = omega (arith, neighbours-le (granted c .lag-known))
 luma-fit-requires : tie.Need-luma-fit-requires
 luma-fit-requires c κs = let g = granted c in (plane-of _ _ _ _ _ (g .frame .source .y) (g .frame .copy .y), g .frame .shape .size .wide, g .frame .shape .size .high, g .lag-known)
 
-first-requires : tie.Need-first-requires
-first-requires c κs = search needs
-
 all-zero-requires : tie.Need-all-zero-requires
 all-zero-requires c κs = neighbours-le (granted (c .before .before) .lag-known)
-
-unfitted-requires-2 : tie.Need-unfitted-requires-2
-unfitted-requires-2 c κs = search needs
 
 returns-2 : tie.Need-returns-2
 returns-2 c =
     let k = c .before .before .before .before .before in
     c .unfitted2 .ensures
     ∙ no-fit _ _ _ _ _ _ _ _ _ (k .before .fit-refusal .ensures) (k .if1 .left) _ (c .before .before .before .first .ensures ∙ ap firstOf (c .before .before .before .before .luma-fit .ensures)) (sym (c .before .before .all-zero .ensures) ∙ c .before .if2 .taken)
-
-chroma-width-requires : tie.Need-chroma-width-requires
-chroma-width-requires c κs = search needs
-
-chroma-height-requires : tie.Need-chroma-height-requires
-chroma-height-requires c κs = search needs
 
 chroma-fit-requires : tie.Need-chroma-fit-requires
 chroma-fit-requires c κs =
@@ -74,18 +56,18 @@ pub fit-ar-lag-spec : {M : Type 1} → statement M
 fit-ar-lag-spec =
     tie.close
     (tie.spec
-    fit-refusal-requires
-    unfitted-requires
+    (λ c κs. search needs)
+    (λ c κs. search needs)
     returns
     mul-count
     add-count
     mul-count-2
     luma-fit-requires
-    first-requires
+    (λ c κs. search needs)
     all-zero-requires
-    unfitted-requires-2
+    (λ c κs. search needs)
     returns-2
-    chroma-width-requires
-    chroma-height-requires
+    (λ c κs. search needs)
+    (λ c κs. search needs)
     chroma-fit-requires
     returns-3)

@@ -3,12 +3,6 @@ use borrow.Author.Needs.{needs}
 use Rattle.frame.proofs.chroma_side.Statement.{statement}
 use Rattle.frame.proofs.chroma_side.Tie as tie
 
-returns : tie.Need-returns
-returns c = search needs
-
-half-up-requires : tie.Need-half-up-requires
-half-up-requires c κs = search needs
-
 returns-2 : tie.Need-returns-2
 returns-2 c = cc
 
@@ -16,4 +10,4 @@ returns-3 : tie.Need-returns-3
 returns-3 c = search needs
 
 pub chroma-side-spec : {M : Type 1} → statement M
-chroma-side-spec = tie.close (tie.spec returns half-up-requires returns-2 returns-3)
+chroma-side-spec = tie.close (tie.spec (λ c. search needs) (λ c κs. search needs) returns-2 returns-3)

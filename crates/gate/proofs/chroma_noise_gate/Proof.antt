@@ -8,17 +8,8 @@ use Rattle.gate.proofs.Answers.{chroma-refused, chroma-answered}
 use Rattle.gate.proofs.chroma_noise_gate.Statement.{statement}
 use Rattle.gate.proofs.chroma_noise_gate.Tie as tie
 
-gate-refusal-requires : tie.Need-gate-refusal-requires
-gate-refusal-requires c κs = search needs
-
 returns : tie.Need-returns
 returns c = chroma-refused _ _ _ _ _ _ _ (c .before .gate-refusal .ensures) (c .if1 .taken)
-
-chroma-width-requires : tie.Need-chroma-width-requires
-chroma-width-requires c κs = search needs
-
-chroma-height-requires : tie.Need-chroma-height-requires
-chroma-height-requires c κs = search needs
 
 chroma-finding-requires : tie.Need-chroma-finding-requires
 chroma-finding-requires c κs =
@@ -32,9 +23,6 @@ chroma-finding-requires c κs =
       chroma-short _ (g .shape) _ _ w h,
     )
 
-is-passed-requires : tie.Need-is-passed-requires
-is-passed-requires c κs = search needs
-
 returns-2 : tie.Need-returns-2
 returns-2 c =
     let k = c .before .before .before .before in
@@ -44,10 +32,10 @@ pub chroma-noise-gate-spec : {M : Type 1} → statement M
 chroma-noise-gate-spec =
     tie.close
     (tie.spec
-    gate-refusal-requires
+    (λ c κs. search needs)
     returns
-    chroma-width-requires
-    chroma-height-requires
+    (λ c κs. search needs)
+    (λ c κs. search needs)
     chroma-finding-requires
-    is-passed-requires
+    (λ c κs. search needs)
     returns-2)

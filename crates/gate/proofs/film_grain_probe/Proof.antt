@@ -9,9 +9,6 @@ use Rattle.gate.proofs.Answers.{luma-refused, luma-answered}
 use Rattle.gate.proofs.film_grain_probe.Statement.{statement}
 use Rattle.gate.proofs.film_grain_probe.Tie as tie
 
-gate-refusal-requires : tie.Need-gate-refusal-requires
-gate-refusal-requires c κs = search needs
-
 returns : tie.Need-returns
 returns c = luma-refused _ _ _ _ _ _ (c .before .gate-refusal .ensures) (c .if1 .taken)
 
@@ -37,9 +34,6 @@ luma-finding-requires c κs =
       omega (arith, g .shape .depth .most),
     )
 
-is-passed-requires : tie.Need-is-passed-requires
-is-passed-requires c κs = search needs
-
 returns-2 : tie.Need-returns-2
 returns-2 c =
     let k = c .before .before .before in
@@ -49,10 +43,10 @@ pub film-grain-probe-spec : {M : Type 1} → statement M
 film-grain-probe-spec =
     tie.close
     (tie.spec
-    gate-refusal-requires
+    (λ c κs. search needs)
     returns
     sub-shift
     cast-shift
     luma-finding-requires
-    is-passed-requires
+    (λ c κs. search needs)
     returns-2)

@@ -7,9 +7,6 @@ use Rattle.gate.proofs.Answers.{refused, answered}
 use Rattle.gate.proofs.lag_h_rho.Statement.{statement}
 use Rattle.gate.proofs.lag_h_rho.Tie as tie
 
-pair-refusal-requires : tie.Need-pair-refusal-requires
-pair-refusal-requires c κs = search needs
-
 returns : tie.Need-returns
 returns c = refused _ _ _ _ _ _ _ (c .before .pair-refusal .ensures) (c .if1 .taken)
 
@@ -24,4 +21,4 @@ returns-2 c =
 
 pub lag-h-rho-spec : {M : Type 1} → statement M
 lag-h-rho-spec =
-    tie.close (tie.spec pair-refusal-requires returns row-correlation-requires returns-2)
+    tie.close (tie.spec (λ c κs. search needs) returns row-correlation-requires returns-2)

@@ -45,9 +45,6 @@ not-before c = tested (c .before .args .place) false (c .before .fits .place) (c
 cast-i : tie.Need-cast-i
 cast-i c = whole-read (c .before .args .place) (c .before .fits .place) (not-before c)
 
-sub-result : tie.Need-sub-result
-sub-result c = search needs
-
 returns-2 : tie.Need-returns-2
 returns-2 c = let a = c .before .before in within-read (a .args .n) (a .args .place) (a .fits .place) (not-before (c .before)) (c .if2 .taken)
 
@@ -55,4 +52,4 @@ returns-3 : tie.Need-returns-3
 returns-3 c = let a = c .before .before in past-read (a .args .n) (a .args .place) (a .fits .place) (not-before (c .before)) (c .if2 .left)
 
 pub held-at-spec : {M : Type 1} → statement M
-held-at-spec = tie.close (tie.spec returns cast-i sub-result returns-2 returns-3)
+held-at-spec = tie.close (tie.spec returns cast-i (λ c. search needs) returns-2 returns-3)

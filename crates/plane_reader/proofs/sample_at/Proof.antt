@@ -14,9 +14,6 @@ use Rattle.plane_reader.proofs.Answers.{refused, nothing, found, has-ro
 use Rattle.plane_reader.proofs.sample_at.Statement.{statement}
 use Rattle.plane_reader.proofs.sample_at.Tie as tie
 
-plane-refusal-requires : tie.Need-plane-refusal-requires
-plane-refusal-requires c κs = search needs
-
 returns : tie.Need-returns
 returns c =
     let A = c .before .before .before .args in
@@ -78,4 +75,4 @@ returns-3 c =
 
 pub sample-at-spec : {M : Type 1} → statement M
 sample-at-spec =
-    tie.close (tie.spec plane-refusal-requires returns returns-2 held-at-requires held-at-requires-2 mul-i add-i mul-t10 shared-slice-read-t14 returns-3)
+    tie.close (tie.spec (λ c κs. search needs) returns returns-2 held-at-requires held-at-requires-2 mul-i add-i mul-t10 shared-slice-read-t14 returns-3)

@@ -20,26 +20,11 @@ abbrev μ-loop : tie.MeasureT-loop
 returns : tie.Need-returns Inv-loop μ-loop
 returns c = sym (refused-is (c .before .args .lag) (c .if1 .taken))
 
-mul-side : tie.Need-mul-side Inv-loop μ-loop
-mul-side c = search needs
-
-add-side : tie.Need-add-side Inv-loop μ-loop
-add-side c = search needs
-
-mul-count : tie.Need-mul-count Inv-loop μ-loop
-mul-count c = search needs
-
-add-count : tie.Need-add-count Inv-loop μ-loop
-add-count c = search needs
-
 mul-count-2 : tie.Need-mul-count-2 Inv-loop μ-loop
 mul-count-2 c = let h : c .before .args .lag ≤ 3 = search needs in omega (arith, neighbours-le h)
 
 loop-holds : tie.Need-loop-holds Inv-loop μ-loop
 loop-holds c = record { some = zero-le; rows-are = refl; columns-are = refl }
-
-div-offset : tie.Need-div-offset Inv-loop μ-loop
-div-offset c = search needs
 
 few : (c : tie.In-loop Inv-loop μ-loop) → c .before .loop .i < 24
 few c = let h : c .before .before .before .args .lag ≤ 3 = search needs in omega (arith, neighbours-le h)
@@ -53,9 +38,6 @@ mul-rows c = omega (arith, few (c .before))
 array-set-from-rows : tie.Need-array-set-from-rows Inv-loop μ-loop
 array-set-from-rows c = few (c .before)
 
-rem-offset : tie.Need-rem-offset Inv-loop μ-loop
-rem-offset c = search needs
-
 offset-requires-2 : tie.Need-offset-requires-2 Inv-loop μ-loop
 offset-requires-2 c κs = (le-trans (mod-le (c .before .before .loop .i) _) (le-of-lt (few (c .before))), search needs)
 
@@ -67,9 +49,6 @@ array-set-from-columns c = few (c .before .before)
 
 add-i : tie.Need-add-i Inv-loop μ-loop
 add-i c = omega (arith, few (c .before .before))
-
-loop-less : tie.Need-loop-less Inv-loop μ-loop
-loop-less c = search needs
 
 loop-again : tie.Need-loop-again Inv-loop μ-loop
 loop-again c =
@@ -88,21 +67,21 @@ ar-positions-spec =
     Inv-loop
     μ-loop
     returns
-    mul-side
-    add-side
-    mul-count
-    add-count
+    (λ c. search needs)
+    (λ c. search needs)
+    (λ c. search needs)
+    (λ c. search needs)
     mul-count-2
     loop-holds
-    div-offset
+    (λ c. search needs)
     offset-requires
     mul-rows
     array-set-from-rows
-    rem-offset
+    (λ c. search needs)
     offset-requires-2
     mul-columns
     array-set-from-columns
     add-i
-    loop-less
+    (λ c. search needs)
     loop-again
     returns-2)

@@ -15,12 +15,6 @@ difference : (k lag : ℕ) → k ≤ 24 → lag ≤ 3 → Is w32 (toZ w32 k -ℤ
 difference k lag h l =
     minus (unsigned w32 k (omega arith)) (unsigned w32 lag (omega arith)) (lt-of-le-of-lt (offset-size k lag) (omega arith))
 
-cast-result : tie.Need-cast-result
-cast-result c = search needs
-
-cast-result-2 : tie.Need-cast-result-2
-cast-result-2 c = search needs
-
 sub-result : tie.Need-sub-result
 sub-result c = fits (difference (c .args .k) (c .args .lag) (c .pre .0) (c .pre .1))
 
@@ -28,4 +22,4 @@ returns : tie.Need-returns
 returns c = again (difference (c .args .k) (c .args .lag) (c .pre .0) (c .pre .1)) .eq
 
 pub offset-spec : {M : Type 1} → statement M
-offset-spec = tie.close (tie.spec cast-result cast-result-2 sub-result returns)
+offset-spec = tie.close (tie.spec (λ c. search needs) (λ c. search needs) sub-result returns)

@@ -17,39 +17,6 @@ abbrev μ-loop : tie.MeasureT-loop
 loop-holds : tie.Need-loop-holds Inv-loop μ-loop
 loop-holds c = (search needs, loop-starts _ _ _)
 
-sub-i : tie.Need-sub-i Inv-loop μ-loop
-sub-i c = search needs
-
-sub-i-2 : tie.Need-sub-i-2 Inv-loop μ-loop
-sub-i-2 c = search needs
-
-mul-unknown : tie.Need-mul-unknown Inv-loop μ-loop
-mul-unknown c = search needs
-
-array-copy-out-unknown : tie.Need-array-copy-out-unknown Inv-loop μ-loop
-array-copy-out-unknown c = search needs
-
-mul-unknown-2 : tie.Need-mul-unknown-2 Inv-loop μ-loop
-mul-unknown-2 c = search needs
-
-array-read-unknown : tie.Need-array-read-unknown Inv-loop μ-loop
-array-read-unknown c = search needs
-
-unknown-requires : tie.Need-unknown-requires Inv-loop μ-loop
-unknown-requires c κs = search needs
-
-mul-x : tie.Need-mul-x Inv-loop μ-loop
-mul-x c = search needs
-
-array-write-x : tie.Need-array-write-x Inv-loop μ-loop
-array-write-x c = search needs
-
-add-n : tie.Need-add-n Inv-loop μ-loop
-add-n c = search needs
-
-loop-less : tie.Need-loop-less Inv-loop μ-loop
-loop-less c = search needs
-
 loop-again : tie.Need-loop-again Inv-loop μ-loop
 unfolding placed
 loop-again c =
@@ -67,16 +34,16 @@ back-substitute-spec =
     Inv-loop
     μ-loop
     loop-holds
-    sub-i
-    sub-i-2
-    mul-unknown
-    array-copy-out-unknown
-    mul-unknown-2
-    array-read-unknown
-    unknown-requires
-    mul-x
-    array-write-x
-    add-n
-    loop-less
+    (λ c. search needs)
+    (λ c. search needs)
+    (λ c. search needs)
+    (λ c. search needs)
+    (λ c. search needs)
+    (λ c. search needs)
+    (λ c κs. search needs)
+    (λ c. search needs)
+    (λ c. search needs)
+    (λ c. search needs)
+    (λ c. search needs)
     loop-again
     returns)

@@ -20,109 +20,16 @@ Inv-loop b₀ i order m₀ r₀ b m r = (i + 1 ≤ r) × (r ≤ order) × (_≡_
 abbrev μ-loop : tie.MeasureT-loop
 μ-loop b₀ i order m₀ r₀ b m r = order - r
 
-add-r : tie.Need-add-r Inv-loop2 μ-loop2 Inv-loop μ-loop
-add-r c = search needs
-
 loop-holds : tie.Need-loop-holds Inv-loop2 μ-loop2 Inv-loop μ-loop
 loop-holds c = (search needs, search needs, loop-starts _ _ _)
 
-mul-f : tie.Need-mul-f Inv-loop2 μ-loop2 Inv-loop μ-loop
-mul-f c = search needs
-
-mul-f-2 : tie.Need-mul-f-2 Inv-loop2 μ-loop2 Inv-loop μ-loop
-mul-f-2 c = search needs
-
-index-1-f : tie.Need-index-1-f Inv-loop2 μ-loop2 Inv-loop μ-loop
-index-1-f c = search needs
-
-index-2-f : tie.Need-index-2-f Inv-loop2 μ-loop2 Inv-loop μ-loop
-index-2-f c = search needs
-
-mul-f-3 : tie.Need-mul-f-3 Inv-loop2 μ-loop2 Inv-loop μ-loop
-mul-f-3 c = search needs
-
-mul-f-4 : tie.Need-mul-f-4 Inv-loop2 μ-loop2 Inv-loop μ-loop
-mul-f-4 c = search needs
-
-index-1-f-2 : tie.Need-index-1-f-2 Inv-loop2 μ-loop2 Inv-loop μ-loop
-index-1-f-2 c = search needs
-
-index-2-f-2 : tie.Need-index-2-f-2 Inv-loop2 μ-loop2 Inv-loop μ-loop
-index-2-f-2 c = search needs
-
 loop2-holds : tie.Need-loop2-holds Inv-loop2 μ-loop2 Inv-loop μ-loop
 loop2-holds c = (search needs, search needs, loop-starts _ _ _)
-
-mul-m : tie.Need-mul-m Inv-loop2 μ-loop2 Inv-loop μ-loop
-mul-m c = search needs
-
-mul-m-2 : tie.Need-mul-m-2 Inv-loop2 μ-loop2 Inv-loop μ-loop
-mul-m-2 c = search needs
-
-index-1-m : tie.Need-index-1-m Inv-loop2 μ-loop2 Inv-loop μ-loop
-index-1-m c = search needs
-
-index-2-m : tie.Need-index-2-m Inv-loop2 μ-loop2 Inv-loop μ-loop
-index-2-m c = search needs
-
-mul-m-3 : tie.Need-mul-m-3 Inv-loop2 μ-loop2 Inv-loop μ-loop
-mul-m-3 c = search needs
-
-mul-m-4 : tie.Need-mul-m-4 Inv-loop2 μ-loop2 Inv-loop μ-loop
-mul-m-4 c = search needs
-
-index-1-m-2 : tie.Need-index-1-m-2 Inv-loop2 μ-loop2 Inv-loop μ-loop
-index-1-m-2 c = search needs
-
-index-2-m-2 : tie.Need-index-2-m-2 Inv-loop2 μ-loop2 Inv-loop μ-loop
-index-2-m-2 c = search needs
-
-mul-m-5 : tie.Need-mul-m-5 Inv-loop2 μ-loop2 Inv-loop μ-loop
-mul-m-5 c = search needs
-
-mul-m-6 : tie.Need-mul-m-6 Inv-loop2 μ-loop2 Inv-loop μ-loop
-mul-m-6 c = search needs
-
-index-1-m-3 : tie.Need-index-1-m-3 Inv-loop2 μ-loop2 Inv-loop μ-loop
-index-1-m-3 c = search needs
-
-index-2-m-3 : tie.Need-index-2-m-3 Inv-loop2 μ-loop2 Inv-loop μ-loop
-index-2-m-3 c = search needs
-
-add-c : tie.Need-add-c Inv-loop2 μ-loop2 Inv-loop μ-loop
-add-c c = search needs
-
-loop2-less : tie.Need-loop2-less Inv-loop2 μ-loop2 Inv-loop μ-loop
-loop2-less c = search needs
 
 loop2-again : tie.Need-loop2-again Inv-loop2 μ-loop2 Inv-loop μ-loop
 unfolding cellLess
 loop2-again c =
     let l = c .before .before .before .loop2 in (search needs, search needs, loop-turn _ _ _ _ _ (l .inv .0) (l .inv .2))
-
-mul-b : tie.Need-mul-b Inv-loop2 μ-loop2 Inv-loop μ-loop
-mul-b c = search needs
-
-element-copy-out-b : tie.Need-element-copy-out-b Inv-loop2 μ-loop2 Inv-loop μ-loop
-element-copy-out-b c = search needs
-
-mul-b-2 : tie.Need-mul-b-2 Inv-loop2 μ-loop2 Inv-loop μ-loop
-mul-b-2 c = search needs
-
-element-copy-out-b-2 : tie.Need-element-copy-out-b-2 Inv-loop2 μ-loop2 Inv-loop μ-loop
-element-copy-out-b-2 c = search needs
-
-mul-b-3 : tie.Need-mul-b-3 Inv-loop2 μ-loop2 Inv-loop μ-loop
-mul-b-3 c = search needs
-
-element-write-b : tie.Need-element-write-b Inv-loop2 μ-loop2 Inv-loop μ-loop
-element-write-b c = search needs
-
-add-r-2 : tie.Need-add-r-2 Inv-loop2 μ-loop2 Inv-loop μ-loop
-add-r-2 c = search needs
-
-loop-less : tie.Need-loop-less Inv-loop2 μ-loop2 Inv-loop μ-loop
-loop-less c = search needs
 
 loop-again : tie.Need-loop-again Inv-loop2 μ-loop2 Inv-loop μ-loop
 unfolding rowCleared rowLess
@@ -143,39 +50,39 @@ eliminate-below-spec =
     μ-loop2
     Inv-loop
     μ-loop
-    add-r
+    (λ c. search needs)
     loop-holds
-    mul-f
-    mul-f-2
-    index-1-f
-    index-2-f
-    mul-f-3
-    mul-f-4
-    index-1-f-2
-    index-2-f-2
+    (λ c. search needs)
+    (λ c. search needs)
+    (λ c. search needs)
+    (λ c. search needs)
+    (λ c. search needs)
+    (λ c. search needs)
+    (λ c. search needs)
+    (λ c. search needs)
     loop2-holds
-    mul-m
-    mul-m-2
-    index-1-m
-    index-2-m
-    mul-m-3
-    mul-m-4
-    index-1-m-2
-    index-2-m-2
-    mul-m-5
-    mul-m-6
-    index-1-m-3
-    index-2-m-3
-    add-c
-    loop2-less
+    (λ c. search needs)
+    (λ c. search needs)
+    (λ c. search needs)
+    (λ c. search needs)
+    (λ c. search needs)
+    (λ c. search needs)
+    (λ c. search needs)
+    (λ c. search needs)
+    (λ c. search needs)
+    (λ c. search needs)
+    (λ c. search needs)
+    (λ c. search needs)
+    (λ c. search needs)
+    (λ c. search needs)
     loop2-again
-    mul-b
-    element-copy-out-b
-    mul-b-2
-    element-copy-out-b-2
-    mul-b-3
-    element-write-b
-    add-r-2
-    loop-less
+    (λ c. search needs)
+    (λ c. search needs)
+    (λ c. search needs)
+    (λ c. search needs)
+    (λ c. search needs)
+    (λ c. search needs)
+    (λ c. search needs)
+    (λ c. search needs)
     loop-again
     returns)

@@ -18,47 +18,8 @@ Inv-loop order i a piv₀ r₀ piv r = (i + 1 ≤ r) × (r ≤ order) × (piv < 
 abbrev μ-loop : tie.MeasureT-loop
 μ-loop order i a piv₀ r₀ piv r = order - r
 
-add-r : tie.Need-add-r Inv-loop μ-loop
-add-r c = search needs
-
 loop-holds : tie.Need-loop-holds Inv-loop μ-loop
 loop-holds c = (search needs, search needs, search needs, loop-starts _ _ _)
-
-mul-magnitude : tie.Need-mul-magnitude Inv-loop μ-loop
-mul-magnitude c = search needs
-
-mul-magnitude-2 : tie.Need-mul-magnitude-2 Inv-loop μ-loop
-mul-magnitude-2 c = search needs
-
-index-1-magnitude : tie.Need-index-1-magnitude Inv-loop μ-loop
-index-1-magnitude c = search needs
-
-index-2-magnitude : tie.Need-index-2-magnitude Inv-loop μ-loop
-index-2-magnitude c = search needs
-
-magnitude-requires : tie.Need-magnitude-requires Inv-loop μ-loop
-magnitude-requires c κs = search needs
-
-mul-magnitude-3 : tie.Need-mul-magnitude-3 Inv-loop μ-loop
-mul-magnitude-3 c = search needs
-
-mul-magnitude-4 : tie.Need-mul-magnitude-4 Inv-loop μ-loop
-mul-magnitude-4 c = search needs
-
-index-1-magnitude-2 : tie.Need-index-1-magnitude-2 Inv-loop μ-loop
-index-1-magnitude-2 c = search needs
-
-index-2-magnitude-2 : tie.Need-index-2-magnitude-2 Inv-loop μ-loop
-index-2-magnitude-2 c = search needs
-
-magnitude-requires-2 : tie.Need-magnitude-requires-2 Inv-loop μ-loop
-magnitude-requires-2 c κs = search needs
-
-add-r-2 : tie.Need-add-r-2 Inv-loop μ-loop
-add-r-2 c = search needs
-
-loop-less : tie.Need-loop-less Inv-loop μ-loop
-loop-less c = search needs
 
 loop-again : tie.Need-loop-again Inv-loop μ-loop
 unfolding larger
@@ -85,19 +46,19 @@ pivot-row-spec =
     (tie.spec
     Inv-loop
     μ-loop
-    add-r
+    (λ c. search needs)
     loop-holds
-    mul-magnitude
-    mul-magnitude-2
-    index-1-magnitude
-    index-2-magnitude
-    magnitude-requires
-    mul-magnitude-3
-    mul-magnitude-4
-    index-1-magnitude-2
-    index-2-magnitude-2
-    magnitude-requires-2
-    add-r-2
-    loop-less
+    (λ c. search needs)
+    (λ c. search needs)
+    (λ c. search needs)
+    (λ c. search needs)
+    (λ c κs. search needs)
+    (λ c. search needs)
+    (λ c. search needs)
+    (λ c. search needs)
+    (λ c. search needs)
+    (λ c κs. search needs)
+    (λ c. search needs)
+    (λ c. search needs)
     loop-again
     returns)

@@ -31,44 +31,11 @@ turned c t h =
     (c .before .before .exchange-values .ensures) (c .magnitude .ensures) h
     ∙ loop-turn _ _ _ _ _ (search needs) (at-loop .loop .inv .2)
 
-refusal-requires : tie.Need-refusal-requires Inv-loop μ-loop
-refusal-requires c κs = search needs
-
-unsolved-requires : tie.Need-unsolved-requires Inv-loop μ-loop
-unsolved-requires c κs = search needs
-
 returns : tie.Need-returns Inv-loop μ-loop
 returns c = c .unsolved .ensures ∙ refused-is _ _ _ _ (c .before .before .refusal .ensures) (c .before .if1 .taken)
 
 loop-holds : tie.Need-loop-holds Inv-loop μ-loop
 loop-holds c = (search needs, order-fits _ _ (c .before .refusal .ensures) (c .if1 .left), loop-starts _ _ _)
-
-pivot-row-requires : tie.Need-pivot-row-requires Inv-loop μ-loop
-pivot-row-requires c κs = search needs
-
-exchange-rows-requires : tie.Need-exchange-rows-requires Inv-loop μ-loop
-exchange-rows-requires c κs = search needs
-
-exchange-values-requires : tie.Need-exchange-values-requires Inv-loop μ-loop
-exchange-values-requires c κs = search needs
-
-mul-magnitude : tie.Need-mul-magnitude Inv-loop μ-loop
-mul-magnitude c = search needs
-
-mul-magnitude-2 : tie.Need-mul-magnitude-2 Inv-loop μ-loop
-mul-magnitude-2 c = search needs
-
-index-1-magnitude : tie.Need-index-1-magnitude Inv-loop μ-loop
-index-1-magnitude c = search needs
-
-index-2-magnitude : tie.Need-index-2-magnitude Inv-loop μ-loop
-index-2-magnitude c = search needs
-
-magnitude-requires : tie.Need-magnitude-requires Inv-loop μ-loop
-magnitude-requires c κs = search needs
-
-unsolved-requires-2 : tie.Need-unsolved-requires-2 Inv-loop μ-loop
-unsolved-requires-2 c κs = search needs
 
 returns-2 : tie.Need-returns-2 Inv-loop μ-loop
 returns-2 c =
@@ -76,20 +43,8 @@ returns-2 c =
     c .unsolved2 .ensures
     ∙ none-is _ _ _ _ (at-loop .before .before .refusal .ensures) (at-loop .before .if1 .left) (at-loop .loop .i + 1) (search needs) (turned (c .before .before) true (c .before .if2 .taken))
 
-eliminate-below-requires : tie.Need-eliminate-below-requires Inv-loop μ-loop
-eliminate-below-requires c κs = search needs
-
-add-i : tie.Need-add-i Inv-loop μ-loop
-add-i c = search needs
-
-loop-less : tie.Need-loop-less Inv-loop μ-loop
-loop-less c = search needs
-
 loop-again : tie.Need-loop-again Inv-loop μ-loop
 loop-again c = (search needs, search needs, sym (ap going (c .eliminate-below .ensures)) ∙ turned (c .before .before .before) false (c .before .before .if2 .left))
-
-back-substitute-requires : tie.Need-back-substitute-requires Inv-loop μ-loop
-back-substitute-requires c κs = search needs
 
 returns-3 : tie.Need-returns-3 Inv-loop μ-loop
 returns-3 c =
@@ -103,23 +58,23 @@ solve-normal-spec =
     (tie.spec
     Inv-loop
     μ-loop
-    refusal-requires
-    unsolved-requires
+    (λ c κs. search needs)
+    (λ c κs. search needs)
     returns
     loop-holds
-    pivot-row-requires
-    exchange-rows-requires
-    exchange-values-requires
-    mul-magnitude
-    mul-magnitude-2
-    index-1-magnitude
-    index-2-magnitude
-    magnitude-requires
-    unsolved-requires-2
+    (λ c κs. search needs)
+    (λ c κs. search needs)
+    (λ c κs. search needs)
+    (λ c. search needs)
+    (λ c. search needs)
+    (λ c. search needs)
+    (λ c. search needs)
+    (λ c κs. search needs)
+    (λ c κs. search needs)
     returns-2
-    eliminate-below-requires
-    add-i
-    loop-less
+    (λ c κs. search needs)
+    (λ c. search needs)
+    (λ c. search needs)
     loop-again
-    back-substitute-requires
+    (λ c κs. search needs)
     returns-3)

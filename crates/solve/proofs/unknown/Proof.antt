@@ -15,40 +15,13 @@ Inv-loop right i order row x v₀ j₀ v j = (i + 1 ≤ j) × (j ≤ order) × (
 abbrev μ-loop : tie.MeasureT-loop
 μ-loop right i order row x v₀ j₀ v j = order - j
 
-add-j : tie.Need-add-j Inv-loop μ-loop
-add-j c = search needs
-
 loop-holds : tie.Need-loop-holds Inv-loop μ-loop
 loop-holds c = (search needs, search needs, loop-starts _ _ _)
-
-mul-v : tie.Need-mul-v Inv-loop μ-loop
-mul-v c = search needs
-
-array-read-v : tie.Need-array-read-v Inv-loop μ-loop
-array-read-v c = search needs
-
-mul-v-2 : tie.Need-mul-v-2 Inv-loop μ-loop
-mul-v-2 c = search needs
-
-array-read-v-2 : tie.Need-array-read-v-2 Inv-loop μ-loop
-array-read-v-2 c = search needs
-
-add-j-2 : tie.Need-add-j-2 Inv-loop μ-loop
-add-j-2 c = search needs
-
-loop-less : tie.Need-loop-less Inv-loop μ-loop
-loop-less c = search needs
 
 loop-again : tie.Need-loop-again Inv-loop μ-loop
 unfolding knownLess
 loop-again c =
     let l = c .before .loop in (search needs, search needs, loop-turn _ _ _ _ _ (l .inv .0) (l .inv .2))
-
-mul-result : tie.Need-mul-result Inv-loop μ-loop
-mul-result c = search needs
-
-array-read-result : tie.Need-array-read-result Inv-loop μ-loop
-array-read-result c = search needs
 
 returns : tie.Need-returns Inv-loop μ-loop
 unfolding unknownOf
@@ -63,15 +36,15 @@ unknown-spec =
     (tie.spec
     Inv-loop
     μ-loop
-    add-j
+    (λ c. search needs)
     loop-holds
-    mul-v
-    array-read-v
-    mul-v-2
-    array-read-v-2
-    add-j-2
-    loop-less
+    (λ c. search needs)
+    (λ c. search needs)
+    (λ c. search needs)
+    (λ c. search needs)
+    (λ c. search needs)
+    (λ c. search needs)
     loop-again
-    mul-result
-    array-read-result
+    (λ c. search needs)
+    (λ c. search needs)
     returns)

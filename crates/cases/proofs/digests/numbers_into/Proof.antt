@@ -11,27 +11,6 @@ Inv-loop digest values d₀ i₀ d i = i ≤ length values
 abbrev μ-loop : tie.MeasureT-loop
 μ-loop digest values d₀ i₀ d i = length values - i
 
-loop-holds : tie.Need-loop-holds Inv-loop μ-loop
-loop-holds c = search needs
-
-mul-mixed : tie.Need-mul-mixed Inv-loop μ-loop
-mul-mixed c = search needs
-
-shared-slice-read-mixed : tie.Need-shared-slice-read-mixed Inv-loop μ-loop
-shared-slice-read-mixed c = search needs
-
-mixed-requires : tie.Need-mixed-requires Inv-loop μ-loop
-mixed-requires c κs = search needs
-
-add-i : tie.Need-add-i Inv-loop μ-loop
-add-i c = search needs
-
-loop-less : tie.Need-loop-less Inv-loop μ-loop
-loop-less c = search needs
-
-loop-again : tie.Need-loop-again Inv-loop μ-loop
-loop-again c = search needs
-
 returns : tie.Need-returns Inv-loop μ-loop
 returns c = search needs
 
@@ -41,11 +20,11 @@ numbers-into-spec =
     (tie.spec
     Inv-loop
     μ-loop
-    loop-holds
-    mul-mixed
-    shared-slice-read-mixed
-    mixed-requires
-    add-i
-    loop-less
-    loop-again
+    (λ c. search needs)
+    (λ c. search needs)
+    (λ c. search needs)
+    (λ c κs. search needs)
+    (λ c. search needs)
+    (λ c. search needs)
+    (λ c. search needs)
     returns)

@@ -12,30 +12,6 @@ Inv-loop plane₀ count low i₀ plane i = (i ≤ length plane₀) × (length pl
 abbrev μ-loop : tie.MeasureT-loop
 μ-loop plane₀ count low i₀ plane i = length plane₀ - i
 
-loop-holds : tie.Need-loop-holds Inv-loop μ-loop
-loop-holds c = search needs
-
-sample-requires : tie.Need-sample-requires Inv-loop μ-loop
-sample-requires c κs = search needs
-
-mul-plane : tie.Need-mul-plane Inv-loop μ-loop
-mul-plane c = search needs
-
-slice-write-plane : tie.Need-slice-write-plane Inv-loop μ-loop
-slice-write-plane c = search needs
-
-add-i : tie.Need-add-i Inv-loop μ-loop
-add-i c = search needs
-
-loop-less : tie.Need-loop-less Inv-loop μ-loop
-loop-less c = search needs
-
-loop-again : tie.Need-loop-again Inv-loop μ-loop
-loop-again c = search needs
-
-same-length : tie.Need-same-length Inv-loop μ-loop
-same-length c = search needs
-
 returns : tie.Need-returns Inv-loop μ-loop
 returns c = search needs
 
@@ -45,12 +21,12 @@ fill-spec =
     (tie.spec
     Inv-loop
     μ-loop
-    loop-holds
-    sample-requires
-    mul-plane
-    slice-write-plane
-    add-i
-    loop-less
-    loop-again
-    same-length
+    (λ c. search needs)
+    (λ c κs. search needs)
+    (λ c. search needs)
+    (λ c. search needs)
+    (λ c. search needs)
+    (λ c. search needs)
+    (λ c. search needs)
+    (λ c. search needs)
     returns)

@@ -26,55 +26,16 @@ Inv-loop up mid down line₀ n c₀ line c = (n ≡ length up) × (c ≤ n) × (
 abbrev μ-loop : tie.MeasureT-loop
 μ-loop up mid down line₀ n c₀ line c = n - c
 
-column-sum-requires : tie.Need-column-sum-requires Inv-loop μ-loop
-column-sum-requires c κs = search needs
-
-slice-write-line : tie.Need-slice-write-line Inv-loop μ-loop
-slice-write-line c = search needs
-
 loop-holds : tie.Need-loop-holds Inv-loop μ-loop
 loop-holds c =
     let A = c .before .before .before .before .before .args in
     (refl, omega arith, simp length-set (omega arith), store (A .up .now) (A .mid .now) (A .down .now) (length (A .up .now)) 0 0 (A .line .now) _ (c .column-sum .ensures) (omega arith) (omega arith) refl)
-
-column-sum-requires-2 : tie.Need-column-sum-requires-2 Inv-loop μ-loop
-column-sum-requires-2 c κs = search needs
-
-add-line : tie.Need-add-line Inv-loop μ-loop
-add-line c = search needs
-
-mul-line : tie.Need-mul-line Inv-loop μ-loop
-mul-line c = search needs
-
-slice-write-line-2 : tie.Need-slice-write-line-2 Inv-loop μ-loop
-slice-write-line-2 c = search needs
-
-add-c : tie.Need-add-c Inv-loop μ-loop
-add-c c = search needs
-
-loop-less : tie.Need-loop-less Inv-loop μ-loop
-loop-less c = search needs
 
 loop-again : tie.Need-loop-again Inv-loop μ-loop
 loop-again c =
     let A = c .before .before .before .before .before .before .before .before .args in
     let L = c .before .before .loop in
     (refl, omega arith, simp length-set (L .inv .2), store (A .up .now) (A .mid .now) (A .down .now) (length (A .up .now)) (L .c + 1) (L .c) (L .line) _ (c .column-sum2 .ensures) (omega arith) (omega arith) (L .inv .3))
-
-sub-column-sum : tie.Need-sub-column-sum Inv-loop μ-loop
-sub-column-sum c = search needs
-
-column-sum-requires-3 : tie.Need-column-sum-requires-3 Inv-loop μ-loop
-column-sum-requires-3 c κs = search needs
-
-add-line-2 : tie.Need-add-line-2 Inv-loop μ-loop
-add-line-2 c = search needs
-
-mul-line-2 : tie.Need-mul-line-2 Inv-loop μ-loop
-mul-line-2 c = search needs
-
-slice-write-line-3 : tie.Need-slice-write-line-3 Inv-loop μ-loop
-slice-write-line-3 c = search needs
 
 same-length : tie.Need-same-length Inv-loop μ-loop
 same-length c = simp length-set (omega arith)
@@ -95,20 +56,20 @@ column-sums-spec =
     (tie.spec
     Inv-loop
     μ-loop
-    column-sum-requires
-    slice-write-line
+    (λ c κs. search needs)
+    (λ c. search needs)
     loop-holds
-    column-sum-requires-2
-    add-line
-    mul-line
-    slice-write-line-2
-    add-c
-    loop-less
+    (λ c κs. search needs)
+    (λ c. search needs)
+    (λ c. search needs)
+    (λ c. search needs)
+    (λ c. search needs)
+    (λ c. search needs)
     loop-again
-    sub-column-sum
-    column-sum-requires-3
-    add-line-2
-    mul-line-2
-    slice-write-line-3
+    (λ c. search needs)
+    (λ c κs. search needs)
+    (λ c. search needs)
+    (λ c. search needs)
+    (λ c. search needs)
     same-length
     returns)

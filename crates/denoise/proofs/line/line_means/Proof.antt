@@ -16,33 +16,6 @@ Inv-loop line out₀ c₀ c-end out c = (c-end ≡ length out₀) × (c ≤ leng
 abbrev μ-loop : tie.MeasureT-loop
 μ-loop line out₀ c₀ c-end out c = length out₀ - c
 
-loop-holds : tie.Need-loop-holds Inv-loop μ-loop
-loop-holds c = search needs
-
-mul-weigh-three : tie.Need-mul-weigh-three Inv-loop μ-loop
-mul-weigh-three c = search needs
-
-shared-slice-read-weigh-three : tie.Need-shared-slice-read-weigh-three Inv-loop μ-loop
-shared-slice-read-weigh-three c = search needs
-
-add-weigh-three : tie.Need-add-weigh-three Inv-loop μ-loop
-add-weigh-three c = search needs
-
-mul-weigh-three-2 : tie.Need-mul-weigh-three-2 Inv-loop μ-loop
-mul-weigh-three-2 c = search needs
-
-shared-slice-read-weigh-three-2 : tie.Need-shared-slice-read-weigh-three-2 Inv-loop μ-loop
-shared-slice-read-weigh-three-2 c = search needs
-
-add-weigh-three-2 : tie.Need-add-weigh-three-2 Inv-loop μ-loop
-add-weigh-three-2 c = search needs
-
-mul-weigh-three-3 : tie.Need-mul-weigh-three-3 Inv-loop μ-loop
-mul-weigh-three-3 c = search needs
-
-shared-slice-read-weigh-three-3 : tie.Need-shared-slice-read-weigh-three-3 Inv-loop μ-loop
-shared-slice-read-weigh-three-3 c = search needs
-
 weigh-three-requires : tie.Need-weigh-three-requires Inv-loop μ-loop
 weigh-three-requires c κs =
     let S = c .before .before .before .before .before .before .before in
@@ -55,27 +28,12 @@ mean-of-requires c κs =
     let k = c .before .before .before .before .before .loop .c in
     omega (arith, S .pre .1 k (omega arith), S .pre .1 (k + 1) (omega arith), S .pre .1 (k + 2) (omega arith))
 
-mul-out : tie.Need-mul-out Inv-loop μ-loop
-mul-out c = search needs
-
-slice-write-out : tie.Need-slice-write-out Inv-loop μ-loop
-slice-write-out c = search needs
-
-add-c : tie.Need-add-c Inv-loop μ-loop
-add-c c = search needs
-
-loop-less : tie.Need-loop-less Inv-loop μ-loop
-loop-less c = search needs
-
 loop-again : tie.Need-loop-again Inv-loop μ-loop
 unfolding lineMean
 loop-again c =
     let S = c .before .before .before .before .before .before .before .before .before in
     let L = c .before .before .before .before .before .before .loop in
     (refl, omega arith, simp length-set (L .inv .2), tabulate-more (L .out) (L .c) (lineMean (S .args .line .now)) _ (omega arith) (L .inv .3) search needs)
-
-same-length : tie.Need-same-length Inv-loop μ-loop
-same-length c = search needs
 
 returns : tie.Need-returns Inv-loop μ-loop
 returns c =
@@ -88,21 +46,21 @@ line-means-spec =
     (tie.spec
     Inv-loop
     μ-loop
-    loop-holds
-    mul-weigh-three
-    shared-slice-read-weigh-three
-    add-weigh-three
-    mul-weigh-three-2
-    shared-slice-read-weigh-three-2
-    add-weigh-three-2
-    mul-weigh-three-3
-    shared-slice-read-weigh-three-3
+    (λ c. search needs)
+    (λ c. search needs)
+    (λ c. search needs)
+    (λ c. search needs)
+    (λ c. search needs)
+    (λ c. search needs)
+    (λ c. search needs)
+    (λ c. search needs)
+    (λ c. search needs)
     weigh-three-requires
     mean-of-requires
-    mul-out
-    slice-write-out
-    add-c
-    loop-less
+    (λ c. search needs)
+    (λ c. search needs)
+    (λ c. search needs)
+    (λ c. search needs)
     loop-again
-    same-length
+    (λ c. search needs)
     returns)

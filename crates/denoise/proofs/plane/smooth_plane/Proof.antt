@@ -15,23 +15,11 @@ returns c = let S = c .before .before .before in rows-none (S .args .src .now) (
 line-length : (c : tie.After-blank-line) → let w = c .before .before .before .before .args .width in length (take (w + 2) (c .blank-line .result)) ≡ w + 2
 line-length c = length-take-le _ _ (search needs)
 
-blank-line-requires : tie.Need-blank-line-requires
-blank-line-requires c κs = search needs
-
-add-n : tie.Need-add-n
-add-n c = search needs
-
-array-borrow-prefix-line : tie.Need-array-borrow-prefix-line
-array-borrow-prefix-line c = search needs
-
 slice-aggregate-smooth-rows : tie.Need-slice-aggregate-smooth-rows
 slice-aggregate-smooth-rows c = sym (line-length (c .before))
 
 smooth-rows-requires : tie.Need-smooth-rows-requires
 smooth-rows-requires c κs = let S = c .before .before .before .before .before .before in (S .pre .1, omega arith, line-length (c .before .before), S .pre .2)
-
-same-length : tie.Need-same-length
-same-length c = search needs
 
 returns-2 : tie.Need-returns-2
 returns-2 c = search needs
@@ -41,10 +29,10 @@ smooth-plane-spec =
     tie.close
     (tie.spec
     returns
-    blank-line-requires
-    add-n
-    array-borrow-prefix-line
+    (λ c κs. search needs)
+    (λ c. search needs)
+    (λ c. search needs)
     slice-aggregate-smooth-rows
     smooth-rows-requires
-    same-length
+    (λ c. search needs)
     returns-2)

@@ -7,23 +7,14 @@ use Rattle.denoise.proofs.Separable.{sumsAbout, sums-low, means-smooth}
 use Rattle.denoise.proofs.plane.smooth_row.Statement.{statement}
 use Rattle.denoise.proofs.plane.smooth_row.Tie as tie
 
-place-before-requires : tie.Need-place-before-requires
-place-before-requires c κs = search needs
-
 row-of-requires : tie.Need-row-of-requires
 row-of-requires c κs = let S = c .before .before .before .before in omega (arith, row-within (S .args .width) (S .args .height) (c .place-before .result) (omega arith))
 
 row-of-requires-2 : tie.Need-row-of-requires-2
 row-of-requires-2 c κs = let S = c .before .before .before .before .before in omega (arith, row-within (S .args .width) (S .args .height) (S .args .row) (omega arith))
 
-place-after-requires : tie.Need-place-after-requires
-place-after-requires c κs = search needs
-
 row-of-requires-3 : tie.Need-row-of-requires-3
 row-of-requires-3 c κs = let S = c .before .before .before .before .before .before .before in omega (arith, row-within (S .args .width) (S .args .height) (c .place-after .result) (omega arith))
-
-column-sums-requires : tie.Need-column-sums-requires
-column-sums-requires c κs = search needs
 
 -- the line about the row, filled
 filled : (c : tie.After-column-sums) → let A = c .before .before .before .before .before .before .before .before .before .before .args in
@@ -40,12 +31,6 @@ line-means-requires c κs =
       λ i l. rw (filled K) (sums-low (A .src .now) (A .width) (A .height) (A .row) (omega arith) (λ j. B .shared-slice-known .given j .fits) i (omega arith)),
     )
 
-same-length : tie.Need-same-length
-same-length c = search needs
-
-same-length-2 : tie.Need-same-length-2
-same-length-2 c = search needs
-
 returns : tie.Need-returns
 returns c =
     let K = c .before .before .before .before .before .before .before in
@@ -57,13 +42,13 @@ pub smooth-row-spec : {M : Type 1} → statement M
 smooth-row-spec =
     tie.close
     (tie.spec
-    place-before-requires
+    (λ c κs. search needs)
     row-of-requires
     row-of-requires-2
-    place-after-requires
+    (λ c κs. search needs)
     row-of-requires-3
-    column-sums-requires
+    (λ c κs. search needs)
     line-means-requires
-    same-length
-    same-length-2
+    (λ c. search needs)
+    (λ c. search needs)
     returns)

@@ -32,12 +32,6 @@ add-e c = omega (arith, within c)
 mul-smooth-row : tie.Need-mul-smooth-row Inv-loop μ-loop
 mul-smooth-row c = omega (arith, within (c .before))
 
-sub-smooth-row : tie.Need-sub-smooth-row Inv-loop μ-loop
-sub-smooth-row c = search needs
-
-part-smooth-row-start : tie.Need-part-smooth-row-start Inv-loop μ-loop
-part-smooth-row-start c = search needs
-
 part-smooth-row-end : tie.Need-part-smooth-row-end Inv-loop μ-loop
 part-smooth-row-end c = omega (arith, within (c .before))
 
@@ -47,24 +41,12 @@ smooth-row-requires c κs =
     let L = c .before .before .before .loop in
     (S .pre .0, c .before .before .loop-test .taken, S .pre .1, L .inv .1, rw add-sub-cancel-left (row-length (L .dst) (S .args .width) (L .row) (omega (arith, within (c .before .before)))))
 
-add-row : tie.Need-add-row Inv-loop μ-loop
-add-row c = search needs
-
-loop-less : tie.Need-loop-less Inv-loop μ-loop
-loop-less c = search needs
-
 loop-again : tie.Need-loop-again Inv-loop μ-loop
 loop-again c =
     let A = c .before .before .before .before .before .before .before .before .before .before .before .before .args in
     let L = c .before .before .before .before .before .before .before .before .loop in
     let T = c .before .before .before .before .before .before .before in
     (omega arith, omega arith, omega arith, rows-more (A .src .now) (A .width) (A .height) (L .row) (L .dst) _ _ (omega (arith, within T)) (L .inv .3) (c .before .before .before .before .smooth-row .ensures))
-
-same-length : tie.Need-same-length Inv-loop μ-loop
-same-length c = search needs
-
-same-length-2 : tie.Need-same-length-2 Inv-loop μ-loop
-same-length-2 c = search needs
 
 returns : tie.Need-returns Inv-loop μ-loop
 returns c =
@@ -82,13 +64,13 @@ smooth-rows-spec =
     mul-a
     add-e
     mul-smooth-row
-    sub-smooth-row
-    part-smooth-row-start
+    (λ c. search needs)
+    (λ c. search needs)
     part-smooth-row-end
     smooth-row-requires
-    add-row
-    loop-less
+    (λ c. search needs)
+    (λ c. search needs)
     loop-again
-    same-length
-    same-length-2
+    (λ c. search needs)
+    (λ c. search needs)
     returns)

@@ -4,18 +4,6 @@ use Rattle.fit.proofs.Solutions.{solution, no-solution}
 use Rattle.fit.proofs.coefficients.coefficients.Statement.{statement}
 use Rattle.fit.proofs.coefficients.coefficients.Tie as tie
 
-matrix-requires : tie.Need-matrix-requires
-matrix-requires c κs = search needs
-
-right-side-requires : tie.Need-right-side-requires
-right-side-requires c κs = search needs
-
-solve-normal-requires : tie.Need-solve-normal-requires
-solve-normal-requires c κs = search needs
-
-quantise-requires : tie.Need-quantise-requires
-quantise-requires c κs = search needs
-
 returns : tie.Need-returns
 returns c =
     let k = c .before .before .before .before in
@@ -28,9 +16,9 @@ pub coefficients-spec : {M : Type 1} → statement M
 coefficients-spec =
     tie.close
     (tie.spec
-    matrix-requires
-    right-side-requires
-    solve-normal-requires
-    quantise-requires
+    (λ c κs. search needs)
+    (λ c κs. search needs)
+    (λ c κs. search needs)
+    (λ c κs. search needs)
     returns
     returns-2)

@@ -20,27 +20,6 @@ abbrev μ-loop : tie.MeasureT-loop
 loop-holds : tie.Need-loop-holds Inv-loop μ-loop
 loop-holds c = fill-starts _ _
 
-mul-quant-ar : tie.Need-mul-quant-ar Inv-loop μ-loop
-mul-quant-ar c = search needs
-
-array-read-quant-ar : tie.Need-array-read-quant-ar Inv-loop μ-loop
-array-read-quant-ar c = search needs
-
-quant-ar-requires : tie.Need-quant-ar-requires Inv-loop μ-loop
-quant-ar-requires c κs = search needs
-
-mul-out : tie.Need-mul-out Inv-loop μ-loop
-mul-out c = search needs
-
-array-set-from-out : tie.Need-array-set-from-out Inv-loop μ-loop
-array-set-from-out c = search needs
-
-add-i : tie.Need-add-i Inv-loop μ-loop
-add-i c = search needs
-
-loop-less : tie.Need-loop-less Inv-loop μ-loop
-loop-less c = search needs
-
 loop-again : tie.Need-loop-again Inv-loop μ-loop
 loop-again c = fill-turn _ _ _ (c .before .before .loop .inv) (search needs) (toZ-ofZ w32 _ (record { sfits = c .quant-ar .ok }) ∙ c .quant-ar .ensures)
 
@@ -55,12 +34,12 @@ quantise-spec =
     Inv-loop
     μ-loop
     loop-holds
-    mul-quant-ar
-    array-read-quant-ar
-    quant-ar-requires
-    mul-out
-    array-set-from-out
-    add-i
-    loop-less
+    (λ c. search needs)
+    (λ c. search needs)
+    (λ c κs. search needs)
+    (λ c. search needs)
+    (λ c. search needs)
+    (λ c. search needs)
+    (λ c. search needs)
     loop-again
     returns)

@@ -10,18 +10,12 @@ returns c = row-unused _ _ _ _ (c .if1 .taken)
 returns-2 : tie.Need-returns-2
 returns-2 c = column-unused _ _ _ _ (c .before .if1 .left) (c .if2 .taken)
 
-sum-at-requires : tie.Need-sum-at-requires
-sum-at-requires c κs = search needs
-
 returns-3 : tie.Need-returns-3
 returns-3 c = upper _ _ _ _ (c .before .before .before .if1 .left) (c .before .before .if2 .left) (c .before .if3 .taken) (c .sum-at .ensures)
-
-sum-at-requires-2 : tie.Need-sum-at-requires-2
-sum-at-requires-2 c κs = search needs
 
 returns-4 : tie.Need-returns-4
 returns-4 c = lower _ _ _ _ (c .before .before .before .if1 .left) (c .before .before .if2 .left) (c .before .if3 .left) (c .sum-at2 .ensures)
 
 pub cell-spec : {M : Type 1} → statement M
 cell-spec =
-    tie.close (tie.spec returns returns-2 sum-at-requires returns-3 sum-at-requires-2 returns-4)
+    tie.close (tie.spec returns returns-2 (λ c κs. search needs) returns-3 (λ c κs. search needs) returns-4)

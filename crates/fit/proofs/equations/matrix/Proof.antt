@@ -16,21 +16,6 @@ abbrev μ-loop : tie.MeasureT-loop
 loop-holds : tie.Need-loop-holds Inv-loop μ-loop
 loop-holds c = fill-starts _ _
 
-matrix-row-requires : tie.Need-matrix-row-requires Inv-loop μ-loop
-matrix-row-requires c κs = search needs
-
-mul-m : tie.Need-mul-m Inv-loop μ-loop
-mul-m c = search needs
-
-array-set-from-m : tie.Need-array-set-from-m Inv-loop μ-loop
-array-set-from-m c = search needs
-
-add-i : tie.Need-add-i Inv-loop μ-loop
-add-i c = search needs
-
-loop-less : tie.Need-loop-less Inv-loop μ-loop
-loop-less c = search needs
-
 loop-again : tie.Need-loop-again Inv-loop μ-loop
 loop-again c = fill-turn _ _ _ (c .before .before .loop .inv) (search needs) (c .matrix-row .ensures)
 
@@ -45,10 +30,10 @@ matrix-spec =
     Inv-loop
     μ-loop
     loop-holds
-    matrix-row-requires
-    mul-m
-    array-set-from-m
-    add-i
-    loop-less
+    (λ c κs. search needs)
+    (λ c. search needs)
+    (λ c. search needs)
+    (λ c. search needs)
+    (λ c. search needs)
     loop-again
     returns)

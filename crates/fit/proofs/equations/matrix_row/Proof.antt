@@ -16,21 +16,6 @@ abbrev μ-loop : tie.MeasureT-loop
 loop-holds : tie.Need-loop-holds Inv-loop μ-loop
 loop-holds c = fill-starts _ _
 
-cell-requires : tie.Need-cell-requires Inv-loop μ-loop
-cell-requires c κs = search needs
-
-mul-row : tie.Need-mul-row Inv-loop μ-loop
-mul-row c = search needs
-
-array-write-row : tie.Need-array-write-row Inv-loop μ-loop
-array-write-row c = search needs
-
-add-j : tie.Need-add-j Inv-loop μ-loop
-add-j c = search needs
-
-loop-less : tie.Need-loop-less Inv-loop μ-loop
-loop-less c = search needs
-
 loop-again : tie.Need-loop-again Inv-loop μ-loop
 loop-again c = fill-turn _ _ _ (c .before .before .loop .inv) (search needs) (c .cell .ensures)
 
@@ -45,10 +30,10 @@ matrix-row-spec =
     Inv-loop
     μ-loop
     loop-holds
-    cell-requires
-    mul-row
-    array-write-row
-    add-j
-    loop-less
+    (λ c κs. search needs)
+    (λ c. search needs)
+    (λ c. search needs)
+    (λ c. search needs)
+    (λ c. search needs)
     loop-again
     returns)

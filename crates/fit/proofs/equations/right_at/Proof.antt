@@ -11,9 +11,6 @@ use borrow.Author.Needs.{needs}
 use Rattle.fit.proofs.equations.right_at.Statement.{statement}
 use Rattle.fit.proofs.equations.right_at.Tie as tie
 
-add-whole : tie.Need-add-whole
-add-whole c = search needs
-
 mul-whole : tie.Need-mul-whole
 mul-whole c = omega (arith, in-sums (c .before .pre .0) _ _ (c .before .pre .1) (le-refl _))
 
@@ -26,20 +23,8 @@ mul-whole-2 c = omega (arith, in-sums (c .before .pre .0) _ _ (c .before .pre .1
 shared-slice-copy-out-whole : tie.Need-shared-slice-copy-out-whole
 shared-slice-copy-out-whole c = in-sums (c .before .pre .0) _ _ (c .before .pre .1) (le-refl _)
 
-nearest-i64-to-f64-requires : tie.Need-nearest-i64-to-f64-requires
-nearest-i64-to-f64-requires c κs = search needs
-
 returns : tie.Need-returns
 returns c = right-whole _ _ _ _ _ (c .before .before .if1 .taken) (c .nearest-i64-to-f64 .ensures ∙ ap (ofInt binary64) (toZ-ofZ w64 _ (record { sfits = c .before .whole .given })))
-
-mul-quarters : tie.Need-mul-quarters
-mul-quarters c = search needs
-
-shared-slice-copy-out-quarters : tie.Need-shared-slice-copy-out-quarters
-shared-slice-copy-out-quarters c = search needs
-
-nearest-i64-to-f64-requires-2 : tie.Need-nearest-i64-to-f64-requires-2
-nearest-i64-to-f64-requires-2 c κs = search needs
 
 returns-2 : tie.Need-returns-2
 returns-2 c = right-quarters _ _ _ _ _ (c .before .before .if1 .left) (ap (λ (x : Float). div binary64 x four) (c .nearest-i64-to-f642 .ensures ∙ ap (ofInt binary64) (toZ-ofZ w64 _ (record { sfits = c .before .quarters .given }))))
@@ -48,14 +33,14 @@ pub right-at-spec : {M : Type 1} → statement M
 right-at-spec =
     tie.close
     (tie.spec
-    add-whole
+    (λ c. search needs)
     mul-whole
     add-whole-2
     mul-whole-2
     shared-slice-copy-out-whole
-    nearest-i64-to-f64-requires
+    (λ c κs. search needs)
     returns
-    mul-quarters
-    shared-slice-copy-out-quarters
-    nearest-i64-to-f64-requires-2
+    (λ c. search needs)
+    (λ c. search needs)
+    (λ c κs. search needs)
     returns-2)

@@ -16,21 +16,6 @@ abbrev μ-loop : tie.MeasureT-loop
 loop-holds : tie.Need-loop-holds Inv-loop μ-loop
 loop-holds c = fill-starts _ _
 
-right-value-requires : tie.Need-right-value-requires Inv-loop μ-loop
-right-value-requires c κs = search needs
-
-mul-right : tie.Need-mul-right Inv-loop μ-loop
-mul-right c = search needs
-
-array-write-right : tie.Need-array-write-right Inv-loop μ-loop
-array-write-right c = search needs
-
-add-i : tie.Need-add-i Inv-loop μ-loop
-add-i c = search needs
-
-loop-less : tie.Need-loop-less Inv-loop μ-loop
-loop-less c = search needs
-
 loop-again : tie.Need-loop-again Inv-loop μ-loop
 loop-again c = fill-turn _ _ _ (c .before .before .loop .inv) (search needs) (c .right-value .ensures)
 
@@ -45,10 +30,10 @@ right-side-spec =
     Inv-loop
     μ-loop
     loop-holds
-    right-value-requires
-    mul-right
-    array-write-right
-    add-i
-    loop-less
+    (λ c κs. search needs)
+    (λ c. search needs)
+    (λ c. search needs)
+    (λ c. search needs)
+    (λ c. search needs)
     loop-again
     returns)

@@ -7,11 +7,8 @@ use Rattle.fit.proofs.equations.right_value.Tie as tie
 returns : tie.Need-returns
 returns c = value-unused _ _ _ (c .if1 .taken)
 
-right-at-requires : tie.Need-right-at-requires
-right-at-requires c κs = search needs
-
 returns-2 : tie.Need-returns-2
 returns-2 c = value-used _ _ _ (c .before .if1 .left) (c .right-at .ensures)
 
 pub right-value-spec : {M : Type 1} → statement M
-right-value-spec = tie.close (tie.spec returns right-at-requires returns-2)
+right-value-spec = tie.close (tie.spec returns (λ c κs. search needs) returns-2)

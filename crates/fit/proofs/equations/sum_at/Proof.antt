@@ -10,9 +10,6 @@ use borrow.Author.Needs.{needs}
 use Rattle.fit.proofs.equations.sum_at.Statement.{statement}
 use Rattle.fit.proofs.equations.sum_at.Tie as tie
 
-add-whole : tie.Need-add-whole
-add-whole c = search needs
-
 mul-whole : tie.Need-mul-whole
 mul-whole c = omega (arith, in-sums (c .before .pre .0) _ _ (c .before .pre .1) (c .before .pre .2))
 
@@ -25,20 +22,8 @@ mul-whole-2 c = omega (arith, in-sums (c .before .pre .0) _ _ (c .before .pre .1
 shared-slice-copy-out-whole : tie.Need-shared-slice-copy-out-whole
 shared-slice-copy-out-whole c = in-sums (c .before .pre .0) _ _ (c .before .pre .1) (c .before .pre .2)
 
-nearest-i64-to-f64-requires : tie.Need-nearest-i64-to-f64-requires
-nearest-i64-to-f64-requires c κs = search needs
-
 returns : tie.Need-returns
 returns c = sum-whole _ _ _ _ _ _ _ (c .before .before .if1 .taken) (c .nearest-i64-to-f64 .ensures ∙ ap (ofInt binary64) (toZ-ofZ w64 _ (record { sfits = c .before .whole .given })))
-
-mul-quarters : tie.Need-mul-quarters
-mul-quarters c = search needs
-
-shared-slice-copy-out-quarters : tie.Need-shared-slice-copy-out-quarters
-shared-slice-copy-out-quarters c = search needs
-
-nearest-i64-to-f64-requires-2 : tie.Need-nearest-i64-to-f64-requires-2
-nearest-i64-to-f64-requires-2 c κs = search needs
 
 returns-2 : tie.Need-returns-2
 returns-2 c = sum-quarters _ _ _ _ _ _ _ (c .before .before .before .if1 .left) (c .before .before .if2 .taken) (ap (λ (x : Float). div binary64 x four) (c .nearest-i64-to-f642 .ensures ∙ ap (ofInt binary64) (toZ-ofZ w64 _ (record { sfits = c .before .quarters .given }))))
@@ -50,15 +35,15 @@ pub sum-at-spec : {M : Type 1} → statement M
 sum-at-spec =
     tie.close
     (tie.spec
-    add-whole
+    (λ c. search needs)
     mul-whole
     add-whole-2
     mul-whole-2
     shared-slice-copy-out-whole
-    nearest-i64-to-f64-requires
+    (λ c κs. search needs)
     returns
-    mul-quarters
-    shared-slice-copy-out-quarters
-    nearest-i64-to-f64-requires-2
+    (λ c. search needs)
+    (λ c. search needs)
+    (λ c κs. search needs)
     returns-2
     returns-3)

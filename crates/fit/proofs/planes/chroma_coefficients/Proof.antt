@@ -8,23 +8,11 @@ use Rattle.fit.proofs.planes.chroma_coefficients.Tie as tie
 tap-sums-requires : tie.Need-tap-sums-requires
 tap-sums-requires c κs = let k = c .before .before .before .before .before .before .before .before .pre in (both _ _ _ _ (k .0) (k .1) (k .2) (k .3) (k .4), k .5, k .6)
 
-nearest-i64-to-f64-requires : tie.Need-nearest-i64-to-f64-requires
-nearest-i64-to-f64-requires c κs = search needs
-
 component-requires : tie.Need-component-requires
 component-requires c κs = let k = c .before .before .before .before .before .before .before .before .before .before .before .before .before .before .pre in (k .0 .of-chroma, held _ _ _ _ _ _ (k .0) (k .2) (k .3) (k .4), blue-size (c .before .before .before .before .before .tap-sums .ensures), k .7)
 
 component-requires-2 : tie.Need-component-requires-2
 component-requires-2 c κs = let k = c .before .before .before .before .before .before .before .before .before .before .before .before .before .before .before .before .before .before .pre in (k .1 .of-chroma, held _ _ _ _ _ _ (k .1) (k .2) (k .3) (k .4), red-size (c .before .before .before .before .before .before .before .before .before .tap-sums .ensures), c .before .before .before .component .kept .1 .1 .1 .1 .1 .1 .1 .0 ∙ k .7)
-
-same-length : tie.Need-same-length
-same-length c = search needs
-
-same-length-2 : tie.Need-same-length-2
-same-length-2 c = search needs
-
-same-length-3 : tie.Need-same-length-3
-same-length-3 c = search needs
 
 returns : tie.Need-returns
 returns c =
@@ -38,10 +26,10 @@ chroma-coefficients-spec =
     tie.close
     (tie.spec
     tap-sums-requires
-    nearest-i64-to-f64-requires
+    (λ c κs. search needs)
     component-requires
     component-requires-2
-    same-length
-    same-length-2
-    same-length-3
+    (λ c. search needs)
+    (λ c. search needs)
+    (λ c. search needs)
     returns)

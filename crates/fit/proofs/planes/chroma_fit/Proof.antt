@@ -9,29 +9,11 @@ use borrow.Author.Needs.{needs}
 use Rattle.fit.proofs.planes.chroma_fit.Statement.{statement}
 use Rattle.fit.proofs.planes.chroma_fit.Tie as tie
 
-mul-if1 : tie.Need-mul-if1
-mul-if1 c = search needs
-
 returns : tie.Need-returns
 returns c = (narrow _ _ _ _ _ _ (c .if1 .taken), narrow _ _ _ _ _ _ (c .if1 .taken))
 
 returns-2 : tie.Need-returns-2
 returns-2 c = (short _ _ _ _ _ _ (c .if2 .taken), short _ _ _ _ _ _ (c .if2 .taken))
-
-blank-taps-requires : tie.Need-blank-taps-requires
-blank-taps-requires c κs = search needs
-
-blank-taps-requires-2 : tie.Need-blank-taps-requires-2
-blank-taps-requires-2 c κs = search needs
-
-blank-sums-requires : tie.Need-blank-sums-requires
-blank-sums-requires c κs = search needs
-
-mul-q : tie.Need-mul-q
-mul-q c = search needs
-
-add-q : tie.Need-add-q
-add-q c = search needs
 
 mul-q-2 : tie.Need-mul-q-2
 mul-q-2 c = omega (arith, factors-few (c .before .before .before .before .before .before .before .before .before .before .before .pre .2))
@@ -72,14 +54,14 @@ pub chroma-fit-spec : {M : Type 1} → statement M
 chroma-fit-spec =
     tie.close
     (tie.spec
-    mul-if1
+    (λ c. search needs)
     returns
     returns-2
-    blank-taps-requires
-    blank-taps-requires-2
-    blank-sums-requires
-    mul-q
-    add-q
+    (λ c κs. search needs)
+    (λ c κs. search needs)
+    (λ c κs. search needs)
+    (λ c. search needs)
+    (λ c. search needs)
     mul-q-2
     add-q-2
     mul-size

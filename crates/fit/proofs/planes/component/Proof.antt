@@ -10,23 +10,8 @@ use Rattle.fit.proofs.planes.component.Tie as tie
 plane-sums-requires : tie.Need-plane-sums-requires
 plane-sums-requires c κs = let k = c .before .before .before in (rows (k .pre .0), k .pre .1, k .pre .3)
 
-mul-n : tie.Need-mul-n
-mul-n c = search needs
-
-add-n : tie.Need-add-n
-add-n c = search needs
-
-mul-n-2 : tie.Need-mul-n-2
-mul-n-2 c = search needs
-
-add-coefficients : tie.Need-add-coefficients
-add-coefficients c = search needs
-
 coefficients-requires : tie.Need-coefficients-requires
 coefficients-requires c κs = let k = c .before .before .before .before .before .before in (room (k .pre .1 .few) (c .before .before .plane-sums .kept .1 .1 .1 .1 .1 .1 .0 ∙ k .pre .3) (k .pre .2), search needs)
-
-same-length : tie.Need-same-length
-same-length c = search needs
 
 returns : tie.Need-returns
 returns c = with-sums _ _ _ _ _ _ _ (c .before .before .before .plane-sums .ensures) (c .coefficients .ensures)
@@ -36,10 +21,10 @@ component-spec =
     tie.close
     (tie.spec
     plane-sums-requires
-    mul-n
-    add-n
-    mul-n-2
-    add-coefficients
+    (λ c. search needs)
+    (λ c. search needs)
+    (λ c. search needs)
+    (λ c. search needs)
     coefficients-requires
-    same-length
+    (λ c. search needs)
     returns)

@@ -12,36 +12,6 @@ use Rattle.fit.proofs.planes.luma_coefficients.Tie as tie
 plane-sums-requires : tie.Need-plane-sums-requires
 plane-sums-requires c κs = let k = c .before .before .before in (rows (k .pre .0), window _ _ _ (k .pre .6) (le-of-lt (k .pre .1)) (le-of-lt (k .pre .2)) (k .pre .3) (k .pre .4), k .pre .8)
 
-mul-n : tie.Need-mul-n
-mul-n c = search needs
-
-add-n : tie.Need-add-n
-add-n c = search needs
-
-mul-n-2 : tie.Need-mul-n-2
-mul-n-2 c = search needs
-
-add-energy : tie.Need-add-energy
-add-energy c = search needs
-
-mul-energy : tie.Need-mul-energy
-mul-energy c = search needs
-
-add-energy-2 : tie.Need-add-energy-2
-add-energy-2 c = search needs
-
-mul-energy-2 : tie.Need-mul-energy-2
-mul-energy-2 c = search needs
-
-slice-copy-out-energy : tie.Need-slice-copy-out-energy
-slice-copy-out-energy c = search needs
-
-nearest-i64-to-f64-requires : tie.Need-nearest-i64-to-f64-requires
-nearest-i64-to-f64-requires c κs = search needs
-
-same-length : tie.Need-same-length
-same-length c = search needs
-
 returns : tie.Need-returns
 returns c =
     let k = c .before .before .before .before .before .before .before .before .pre in
@@ -49,9 +19,6 @@ returns c =
 
 coefficients-requires : tie.Need-coefficients-requires
 coefficients-requires c κs = let k = c .before .before .before .before .before .before .before .before .before .pre in (room (k .6) (c .before .before .before .before .before .plane-sums .kept .1 .1 .1 .1 .1 .1 .0 ∙ k .8) (k .7), search needs)
-
-same-length-2 : tie.Need-same-length-2
-same-length-2 c = search needs
 
 returns-2 : tie.Need-returns-2
 returns-2 c =
@@ -64,17 +31,17 @@ luma-coefficients-spec =
     tie.close
     (tie.spec
     plane-sums-requires
-    mul-n
-    add-n
-    mul-n-2
-    add-energy
-    mul-energy
-    add-energy-2
-    mul-energy-2
-    slice-copy-out-energy
-    nearest-i64-to-f64-requires
-    same-length
+    (λ c. search needs)
+    (λ c. search needs)
+    (λ c. search needs)
+    (λ c. search needs)
+    (λ c. search needs)
+    (λ c. search needs)
+    (λ c. search needs)
+    (λ c. search needs)
+    (λ c κs. search needs)
+    (λ c. search needs)
     returns
     coefficients-requires
-    same-length-2
+    (λ c. search needs)
     returns-2)

@@ -12,26 +12,11 @@ use Rattle.fit.proofs.planes.luma_fit.Tie as tie
 returns : tie.Need-returns
 returns c = lag-zero _ _ _ _ _ (c .if1 .taken)
 
-mul-if2 : tie.Need-mul-if2
-mul-if2 c = search needs
-
 returns-2 : tie.Need-returns-2
 returns-2 c = narrow _ _ _ _ _ (c .before .if1 .left) (c .if2 .taken)
 
 returns-3 : tie.Need-returns-3
 returns-3 c = short _ _ _ _ _ (c .before .before .if1 .left) (c .before .if2 .left) (c .if3 .taken)
-
-blank-sums-requires : tie.Need-blank-sums-requires
-blank-sums-requires c κs = search needs
-
-blank-taps-requires : tie.Need-blank-taps-requires
-blank-taps-requires c κs = search needs
-
-mul-q : tie.Need-mul-q
-mul-q c = search needs
-
-add-q : tie.Need-add-q
-add-q c = search needs
 
 mul-q-2 : tie.Need-mul-q-2
 mul-q-2 c = omega (arith, factors-few (c .before .before .before .before .before .before .before .pre .3))
@@ -67,13 +52,13 @@ luma-fit-spec =
     tie.close
     (tie.spec
     returns
-    mul-if2
+    (λ c. search needs)
     returns-2
     returns-3
-    blank-sums-requires
-    blank-taps-requires
-    mul-q
-    add-q
+    (λ c κs. search needs)
+    (λ c κs. search needs)
+    (λ c. search needs)
+    (λ c. search needs)
     mul-q-2
     add-q-2
     mul-size

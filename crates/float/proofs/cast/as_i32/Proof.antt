@@ -58,15 +58,6 @@ more n k h = omega arith
 from-calls : (c : tie.After-as-u64) (s : Bool) → lt (c .before .before .args .x) zeroF ≡ s → side 31 s (c .as-u64 .result) ≡ toSigned 31 (c .before .before .args .x)
 from-calls c s t = known (c .before .before .args .x) (c .before .magnitude .result) s (c .as-u64 .result) t (c .before .magnitude .ensures) (c .as-u64 .ensures)
 
-magnitude-requires : tie.Need-magnitude-requires
-magnitude-requires c κs = search needs
-
-as-u64-requires : tie.Need-as-u64-requires
-as-u64-requires c κs = search needs
-
-cast-result : tie.Need-cast-result
-cast-result c = search needs
-
 sub-result : tie.Need-sub-result
 sub-result c = negation-fits (c .before .before .as-u64 .result) (c .if2 .taken)
 
@@ -80,9 +71,6 @@ returns-2 : tie.Need-returns-2
 returns-2 c =
     ap (λ (w : ℕ). negℤ (pos w)) (more (c .before .before .as-u64 .result) (2 ^ 31) (c .if2 .left)) ∙ from-calls (c .before .before) true (c .before .if1 .taken)
 
-cast-result-2 : tie.Need-cast-result-2
-cast-result-2 c = search needs
-
 returns-3 : tie.Need-returns-3
 returns-3 c =
     let n = c .before .before .as-u64 .result in
@@ -95,12 +83,12 @@ pub as-i32-spec : {M : Type 1} → statement M
 as-i32-spec =
     tie.close
     (tie.spec
-    magnitude-requires
-    as-u64-requires
-    cast-result
+    (λ c κs. search needs)
+    (λ c κs. search needs)
+    (λ c. search needs)
     sub-result
     returns
     returns-2
-    cast-result-2
+    (λ c. search needs)
     returns-3
     returns-4)

@@ -36,9 +36,6 @@ truncating-f64-to-u64-requires : tie.Need-truncating-f64-to-u64-requires
 unfolding ofBits neg
 truncating-f64-to-u64-requires c κs = (subst T (sym (c .before .if1 .taken)) tt, subst T (sym (c .if2 .taken)) tt)
 
-returns : tie.Need-returns
-returns c = search needs
-
 returns-2 : tie.Need-returns-2
 unfolding ofBits neg
 returns-2 c = from-top (c .before .before .args .x) (c .before .if1 .taken) (c .if2 .left)
@@ -48,4 +45,4 @@ unfolding ofBits neg
 returns-3 c = to-bottom (c .before .args .x) (c .if1 .left)
 
 pub as-u64-spec : {M : Type 1} → statement M
-as-u64-spec = tie.close (tie.spec truncating-f64-to-u64-requires returns returns-2 returns-3)
+as-u64-spec = tie.close (tie.spec truncating-f64-to-u64-requires (λ c. search needs) returns-2 returns-3)

@@ -10,15 +10,6 @@ use Rattle.float.specs.Steps.{quantAr}
 use Rattle.float.proofs.quant.quant_ar.Statement.{statement}
 use Rattle.float.proofs.quant.quant_ar.Tie as tie
 
-round-requires : tie.Need-round-requires
-round-requires c κs = search needs
-
-as-i32-requires : tie.Need-as-i32-requires
-as-i32-requires c κs = search needs
-
-clamp-requires : tie.Need-clamp-requires
-clamp-requires c κs = search needs
-
 returns : tie.Need-returns
 unfolding quantAr
 returns c =
@@ -28,4 +19,4 @@ returns c =
     (toZ-ofZ w32 (c .before .as-i32 .result) (record { sfits = c .before .as-i32 .ok }) ∙ c .before .as-i32 .ensures ∙ ap (toSigned 31) (c .before .before .round .ensures))
 
 pub quant-ar-spec : {M : Type 1} → statement M
-quant-ar-spec = tie.close (tie.spec round-requires as-i32-requires clamp-requires returns)
+quant-ar-spec = tie.close (tie.spec (λ c κs. search needs) (λ c κs. search needs) (λ c κs. search needs) returns)

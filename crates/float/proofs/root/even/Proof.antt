@@ -5,9 +5,6 @@ use Rattle.float.proofs.root.Normal.{even-part, odd-part}
 use Rattle.float.proofs.root.even.Statement.{statement}
 use Rattle.float.proofs.root.even.Tie as tie
 
-mul-t7 : tie.Need-mul-t7
-mul-t7 c = search needs
-
 returns : tie.Need-returns
 returns c = (even-part (c .before .args .m) (c .before .args .s) (c .if1 .taken), omega arith, omega arith, omega arith, omega arith)
 
@@ -15,4 +12,4 @@ returns-2 : tie.Need-returns-2
 returns-2 c = (odd-part (c .before .args .m) (c .before .args .s) (c .if1 .left), omega arith, omega arith, omega arith, omega arith)
 
 pub even-spec : {M : Type 1} → statement M
-even-spec = tie.close (tie.spec mul-t7 returns returns-2)
+even-spec = tie.close (tie.spec (λ c. search needs) returns returns-2)

@@ -38,23 +38,11 @@ abbrev μ-loop : tie.MeasureT-loop
 loop-holds : tie.Need-loop-holds Inv-loop μ-loop
 loop-holds c = record { value = sym (mul-one (c .args .m)); n-pos = c .pre .0; n-lt = omega arith; h-le = omega arith }
 
-mul-n : tie.Need-mul-n Inv-loop μ-loop
-mul-n c = omega arith
-
-add-h : tie.Need-add-h Inv-loop μ-loop
-add-h c = omega arith
-
-loop-less : tie.Need-loop-less Inv-loop μ-loop
-loop-less c = omega arith
-
 loop-again : tie.Need-loop-again Inv-loop μ-loop
 loop-again c = shifted-more (c .before .before .args .m) (c .before .loop .n) (c .before .loop .h) (c .before .before .pre .0) (c .before .loop .inv) (c .loop-test .taken)
-
-sub-t5 : tie.Need-sub-t5 Inv-loop μ-loop
-sub-t5 c = omega arith
 
 returns : tie.Need-returns Inv-loop μ-loop
 returns c = (back (c .before .before .args .m) (c .before .loop .n) (c .before .loop .h) (c .before .loop .inv), omega arith, omega arith, omega arith, omega arith)
 
 pub leading-spec : {M : Type 1} → statement M
-leading-spec = tie.close (tie.spec Inv-loop μ-loop loop-holds mul-n add-h loop-less loop-again sub-t5 returns)
+leading-spec = tie.close (tie.spec Inv-loop μ-loop loop-holds (λ c. omega arith) (λ c. omega arith) (λ c. omega arith) loop-again (λ c. omega arith) returns)

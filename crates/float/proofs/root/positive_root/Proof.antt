@@ -46,24 +46,6 @@ down c h = stays _ _ _ _ (parts c) h
 small : (c : tie.After-root-digits) → s-of c - 26 ≤ 2000
 small c = omega (arith, c .before .even .ensures .4)
 
-unpacked-requires : tie.Need-unpacked-requires
-unpacked-requires c κs = search needs
-
-even-requires : tie.Need-even-requires
-even-requires c κs = search needs
-
-root-digits-requires : tie.Need-root-digits-requires
-root-digits-requires c κs = search needs
-
-sub-k : tie.Need-sub-k
-sub-k c = search needs
-
-mul-k : tie.Need-mul-k
-mul-k c = search needs
-
-add-result : tie.Need-add-result
-add-result c = search needs
-
 add-result-2 : tie.Need-add-result-2
 add-result-2 c = omega (arith, small (c .before .before), up (c .before .before) (c .if1 .taken) .hi)
 
@@ -86,12 +68,12 @@ pub positive-root-spec : {M : Type 1} → statement M
 positive-root-spec =
     tie.close
     (tie.spec
-    unpacked-requires
-    even-requires
-    root-digits-requires
-    sub-k
-    mul-k
-    add-result
+    (λ c κs. search needs)
+    (λ c κs. search needs)
+    (λ c κs. search needs)
+    (λ c. search needs)
+    (λ c. search needs)
+    (λ c. search needs)
     add-result-2
     float-from-bits-result
     returns

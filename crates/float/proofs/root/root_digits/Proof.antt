@@ -15,47 +15,11 @@ abbrev μ-loop : tie.MeasureT-loop
 loop-holds : tie.Need-loop-holds Inv-loop μ-loop
 loop-holds c = start (c .args .m) (c .pre)
 
-add-if1 : tie.Need-add-if1 Inv-loop μ-loop
-add-if1 c = omega arith
-
-sub-filled : tie.Need-sub-filled Inv-loop μ-loop
-sub-filled c = omega arith
-
-shl-filled : tie.Need-shl-filled Inv-loop μ-loop
-shl-filled c = omega arith
-
 returns : tie.Need-returns Inv-loop μ-loop
 returns c =
     let i = c .before .before .loop .i in
     let q = c .before .before .loop .q in
     ended (c .before .before .before .args .m) q (c .before .before .loop .rest) (c .before .before .loop .left) i (c .before .before .loop .inv) (c .if1 .taken)
-
-mul-rest : tie.Need-mul-rest Inv-loop μ-loop
-mul-rest c = omega arith
-
-add-rest : tie.Need-add-rest Inv-loop μ-loop
-add-rest c = omega arith
-
-mul-left : tie.Need-mul-left Inv-loop μ-loop
-mul-left c = omega arith
-
-mul-t : tie.Need-mul-t Inv-loop μ-loop
-mul-t c = omega arith
-
-add-t : tie.Need-add-t Inv-loop μ-loop
-add-t c = omega arith
-
-mul-q : tie.Need-mul-q Inv-loop μ-loop
-mul-q c = omega arith
-
-add-q : tie.Need-add-q Inv-loop μ-loop
-add-q c = omega arith
-
-add-i : tie.Need-add-i Inv-loop μ-loop
-add-i c = omega arith
-
-loop-less : tie.Need-loop-less Inv-loop μ-loop
-loop-less c = omega arith
 
 loop-again : tie.Need-loop-again Inv-loop μ-loop
 loop-again c =
@@ -79,18 +43,18 @@ root-digits-spec =
     Inv-loop
     μ-loop
     loop-holds
-    add-if1
-    sub-filled
-    shl-filled
+    (λ c. omega arith)
+    (λ c. omega arith)
+    (λ c. omega arith)
     returns
-    mul-rest
-    add-rest
-    mul-left
-    mul-t
-    add-t
-    mul-q
-    add-q
-    add-i
-    loop-less
+    (λ c. omega arith)
+    (λ c. omega arith)
+    (λ c. omega arith)
+    (λ c. omega arith)
+    (λ c. omega arith)
+    (λ c. omega arith)
+    (λ c. omega arith)
+    (λ c. omega arith)
+    (λ c. omega arith)
     loop-again
     returns-2)

@@ -48,9 +48,6 @@ positive-root-requires : tie.Need-positive-root-requires
 unfolding ofBits div
 positive-root-requires c κs = finite (c .before .before .args .x) (sym (zero-lt (c .before .before .args .x)) ∙ c .before .if1 .taken) (c .if2 .taken)
 
-returns : tie.Need-returns
-returns c = search needs
-
 returns-2 : tie.Need-returns-2
 unfolding ofBits div
 returns-2 c = infinite (c .before .before .args .x) (sym (zero-lt (c .before .before .args .x)) ∙ c .before .if1 .taken) (c .if2 .left)
@@ -64,4 +61,4 @@ returns-4 c =
     no-root (c .before .before .args .x) (sym (zero-lt (c .before .before .args .x)) ∙ c .before .if1 .left) (sym (eq-zero (c .before .before .args .x)) ∙ c .if3 .left)
 
 pub sqrt-spec : {M : Type 1} → statement M
-sqrt-spec = tie.close (tie.spec positive-root-requires returns returns-2 returns-3 returns-4)
+sqrt-spec = tie.close (tie.spec positive-root-requires (λ c. search needs) returns-2 returns-3 returns-4)

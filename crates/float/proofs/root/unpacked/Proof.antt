@@ -59,9 +59,6 @@ returns c =
       c .leading .ensures .4,
     )
 
-add-t6 : tie.Need-add-t6
-add-t6 c = search needs
-
 add-t7 : tie.Need-add-t7
 add-t7 c = let p = known (c .before) in omega (arith, high-field (c .before .args .x) p (c .if1 .left) .1, p .top)
 
@@ -73,4 +70,4 @@ returns-2 c =
     (high-value x p (c .if1 .left), omega arith, omega (arith, f .0, p .few), omega (arith, f .1), omega (arith, f .1, p .top))
 
 pub unpacked-spec : {M : Type 1} → statement M
-unpacked-spec = tie.close (tie.spec float-to-bits-b leading-requires returns add-t6 add-t7 returns-2)
+unpacked-spec = tie.close (tie.spec float-to-bits-b leading-requires returns (λ c. search needs) add-t7 returns-2)

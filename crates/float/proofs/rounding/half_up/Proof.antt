@@ -68,9 +68,6 @@ at : (c : tie.Then1) → Doubled (c .before .args .x) (toUnsigned 64 (mul binary
 unfolding ofBits
 at c = doubled (c .before .args .x) (subst T (sym (c .before .good .0 .1)) tt) (c .before .pre) (c .if1 .taken)
 
-as-u64-requires : tie.Need-as-u64-requires
-as-u64-requires c κs = search needs
-
 add-k : tie.Need-add-k
 unfolding ofBits
 add-k c = omega (arith, at (c .before) .0, c .as-u64 .ensures)
@@ -88,4 +85,4 @@ unfolding ofBits
 returns-2 c = whole-already (c .before .args .x) (subst T (sym (c .before .good .0 .1)) tt) (c .before .pre) (c .if1 .left)
 
 pub half-up-spec : {M : Type 1} → statement M
-half-up-spec = tie.close (tie.spec as-u64-requires add-k int-to-float-result returns returns-2)
+half-up-spec = tie.close (tie.spec (λ c κs. search needs) add-k int-to-float-result returns returns-2)

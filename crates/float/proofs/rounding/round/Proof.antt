@@ -63,9 +63,6 @@ neither (fin false (suc m) e) t a b = absurd (omega (arith, ltb-false 0 (suc m) 
 half-up-requires : tie.Need-half-up-requires
 half-up-requires c κs = subst T (sym (sym (zero-lt (c .before .args .x)) ∙ c .if1 .taken)) tt
 
-returns : tie.Need-returns
-returns c = search needs
-
 half-up-requires-2 : tie.Need-half-up-requires-2
 half-up-requires-2 c κs =
     let x = c .before .before .args .x in
@@ -80,4 +77,4 @@ returns-3 c =
     neither x (subst T (sym (c .before .before .good .0 .1)) tt) (sym (zero-lt x) ∙ c .before .if1 .left) (sym (lt-zero x) ∙ c .if2 .left)
 
 pub round-spec : {M : Type 1} → statement M
-round-spec = tie.close (tie.spec half-up-requires returns half-up-requires-2 returns-2 returns-3)
+round-spec = tie.close (tie.spec half-up-requires (λ c. search needs) half-up-requires-2 returns-2 returns-3)

@@ -23,21 +23,6 @@ some sq count a b z n ea eb ez = rw (ne-eqb count 0 n, ez, ea, eb)
 returns : tie.Need-returns
 returns c = none (c .before .args .sq) (c .before .args .count) (c .if1 .taken)
 
-nearest-u64-to-f64-requires : tie.Need-nearest-u64-to-f64-requires
-nearest-u64-to-f64-requires c κs = search needs
-
-nearest-u64-to-f64-requires-2 : tie.Need-nearest-u64-to-f64-requires-2
-nearest-u64-to-f64-requires-2 c κs = search needs
-
-sqrt-requires : tie.Need-sqrt-requires
-sqrt-requires c κs = search needs
-
-round-requires : tie.Need-round-requires
-round-requires c κs = search needs
-
-as-u64-requires : tie.Need-as-u64-requires
-as-u64-requires c κs = search needs
-
 returns-2 : tie.Need-returns-2
 returns-2 c =
     let s = c .before .before in
@@ -53,9 +38,9 @@ sigma16-spec =
     tie.close
     (tie.spec
     returns
-    nearest-u64-to-f64-requires
-    nearest-u64-to-f64-requires-2
-    sqrt-requires
-    round-requires
-    as-u64-requires
+    (λ c κs. search needs)
+    (λ c κs. search needs)
+    (λ c κs. search needs)
+    (λ c κs. search needs)
+    (λ c κs. search needs)
     returns-2)

@@ -4,12 +4,9 @@ use borrow.Author.Needs.{needs}
 use Rattle.frame.proofs.Shape.chroma_width.Statement.{statement}
 use Rattle.frame.proofs.Shape.chroma_width.Tie as tie
 
-chroma-side-requires : tie.Need-chroma-side-requires
-chroma-side-requires c κs = search needs
-
 returns : tie.Need-returns
 unfolding chromaWidth
 returns c = c .chroma-side .ensures
 
 pub chroma-width-spec : {M : Type 1} → statement M
-chroma-width-spec = tie.close (tie.spec chroma-side-requires returns)
+chroma-width-spec = tie.close (tie.spec (λ c κs. search needs) returns)

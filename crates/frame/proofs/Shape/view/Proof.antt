@@ -4,14 +4,8 @@ use Rattle.frame.specs.View.{whole}
 use Rattle.frame.proofs.Shape.view.Statement.{statement}
 use Rattle.frame.proofs.Shape.view.Tie as tie
 
-width-of-requires : tie.Need-width-of-requires
-width-of-requires c κs = search needs
-
-height-of-requires : tie.Need-height-of-requires
-height-of-requires c κs = search needs
-
 returns : tie.Need-returns
 returns c = λ i. whole (c .before .width-of .ensures i) (c .height-of .ensures i)
 
 pub view-spec : {M : Type 1} → statement M
-view-spec = tie.close (tie.spec width-of-requires height-of-requires returns)
+view-spec = tie.close (tie.spec (λ c κs. search needs) (λ c κs. search needs) returns)

@@ -9,9 +9,6 @@ use borrow.Author.Needs.{needs}
 use Rattle.frame.proofs.numbers.frame_numbers.Statement.{statement}
 use Rattle.frame.proofs.numbers.frame_numbers.Tie as tie
 
-shape-numbers-requires : tie.Need-shape-numbers-requires
-shape-numbers-requires c κs = search needs
-
 returns : tie.Need-returns
 unfolding frameNumbers shapeNumbers
 returns c =
@@ -26,17 +23,8 @@ known k = is-known (k .before .before .args .s) (sym (k .before .shape-numbers .
 samples-requires : tie.Need-samples-requires
 samples-requires c κs = let k = known c in (k .size .wide, k .size .high)
 
-both-are-requires : tie.Need-both-are-requires
-both-are-requires c κs = search needs
-
 samples-requires-2 : tie.Need-samples-requires-2
 samples-requires-2 c κs = let k = known (c .before .before) in (k .size .wide, k .size .high)
-
-four-are-requires : tie.Need-four-are-requires
-four-are-requires c κs = search needs
-
-ask-requires : tie.Need-ask-requires
-ask-requires c κs = search needs
 
 returns-2 : tie.Need-returns-2
 unfolding frameNumbers shapeNumbers
@@ -52,11 +40,11 @@ pub frame-numbers-spec : {M : Type 1} → statement M
 frame-numbers-spec =
     tie.close
     (tie.spec
-    shape-numbers-requires
+    (λ c κs. search needs)
     returns
     samples-requires
-    both-are-requires
+    (λ c κs. search needs)
     samples-requires-2
-    four-are-requires
-    ask-requires
+    (λ c κs. search needs)
+    (λ c κs. search needs)
     returns-2)

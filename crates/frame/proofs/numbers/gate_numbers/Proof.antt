@@ -10,9 +10,6 @@ use borrow.Author.Needs.{needs}
 use Rattle.frame.proofs.numbers.gate_numbers.Statement.{statement}
 use Rattle.frame.proofs.numbers.gate_numbers.Tie as tie
 
-shape-numbers-requires : tie.Need-shape-numbers-requires
-shape-numbers-requires c κs = search needs
-
 returns : tie.Need-returns
 unfolding gateNumbers shapeNumbers
 returns c =
@@ -27,12 +24,6 @@ known k = is-known (k .before .before .args .s) (sym (k .before .shape-numbers .
 samples-requires : tie.Need-samples-requires
 samples-requires c κs = let k = known c in (k .size .wide, k .size .high)
 
-four-are-requires : tie.Need-four-are-requires
-four-are-requires c κs = search needs
-
-ask-requires : tie.Need-ask-requires
-ask-requires c κs = search needs
-
 returns-2 : tie.Need-returns-2
 unfolding gateNumbers shapeNumbers
 returns-2 c =
@@ -45,9 +36,9 @@ pub gate-numbers-spec : {M : Type 1} → statement M
 gate-numbers-spec =
     tie.close
     (tie.spec
-    shape-numbers-requires
+    (λ c κs. search needs)
     returns
     samples-requires
-    four-are-requires
-    ask-requires
+    (λ c κs. search needs)
+    (λ c κs. search needs)
     returns-2)

@@ -10,18 +10,6 @@ use borrow.Author.Needs.{needs}
 use Rattle.frame.proofs.numbers.pair_numbers.Statement.{statement}
 use Rattle.frame.proofs.numbers.pair_numbers.Tie as tie
 
-is-small-requires : tie.Need-is-small-requires
-is-small-requires c κs = search needs
-
-ask-requires : tie.Need-ask-requires
-ask-requires c κs = search needs
-
-depth-known-requires : tie.Need-depth-known-requires
-depth-known-requires c κs = search needs
-
-ask-requires-2 : tie.Need-ask-requires-2
-ask-requires-2 c κs = search needs
-
 -- the number after the questions of size and depth
 abbrev first : tie.After-ask2 → List Question
 first k = let a = k .before .before .before .before .args in small (a .width) (a .height) ∷ depthKnown (a .depth) ∷ []
@@ -45,12 +33,6 @@ mul-both-are c =
     let g = is-small (a .width) (a .height) (passed (first (c .before)) refl (sym (sized (c .before)) ∙ c .if1 .left) .0) in
     area-fits (g .wide) (g .high)
 
-both-are-requires : tie.Need-both-are-requires
-both-are-requires c κs = search needs
-
-ask-requires-3 : tie.Need-ask-requires-3
-ask-requires-3 c κs = search needs
-
 returns-2 : tie.Need-returns-2
 unfolding pairNumbers
 returns-2 c =
@@ -62,12 +44,12 @@ pub pair-numbers-spec : {M : Type 1} → statement M
 pair-numbers-spec =
     tie.close
     (tie.spec
-    is-small-requires
-    ask-requires
-    depth-known-requires
-    ask-requires-2
+    (λ c κs. search needs)
+    (λ c κs. search needs)
+    (λ c κs. search needs)
+    (λ c κs. search needs)
     returns
     mul-both-are
-    both-are-requires
-    ask-requires-3
+    (λ c κs. search needs)
+    (λ c κs. search needs)
     returns-2)

@@ -10,12 +10,6 @@ use borrow.Author.Needs.{needs}
 use Rattle.frame.proofs.numbers.plane_refusal.Statement.{statement}
 use Rattle.frame.proofs.numbers.plane_refusal.Tie as tie
 
-is-small-requires : tie.Need-is-small-requires
-is-small-requires c κs = search needs
-
-ask-requires : tie.Need-ask-requires
-ask-requires c κs = search needs
-
 -- the number after the size's question
 sized : (k : tie.After-ask) → k .ask .result ≡ firstNo (small (k .before .before .args .width) (k .before .before .args .height) ∷ [])
 sized k = asked [] refl refl (small (k .before .before .args .width) (k .before .before .args .height)) (k .ask .ensures) (k .before .is-small .ensures)
@@ -32,12 +26,6 @@ mul-both-are c =
     let g = is-small (a .width) (a .height) (passed (small (a .width) (a .height) ∷ []) refl (sym (sized (c .before)) ∙ c .if1 .left) .0) in
     area-fits (g .wide) (g .high)
 
-both-are-requires : tie.Need-both-are-requires
-both-are-requires c κs = search needs
-
-ask-requires-2 : tie.Need-ask-requires-2
-ask-requires-2 c κs = search needs
-
 returns-2 : tie.Need-returns-2
 unfolding planeRefusal planeNumbers
 returns-2 c =
@@ -49,10 +37,10 @@ pub plane-refusal-spec : {M : Type 1} → statement M
 plane-refusal-spec =
     tie.close
     (tie.spec
-    is-small-requires
-    ask-requires
+    (λ c κs. search needs)
+    (λ c κs. search needs)
     returns
     mul-both-are
-    both-are-requires
-    ask-requires-2
+    (λ c κs. search needs)
+    (λ c κs. search needs)
     returns-2)

@@ -4,12 +4,6 @@ use Rattle.frame.proofs.Size.{area-fits, width-le, height-le}
 use Rattle.frame.proofs.numbers.samples.Statement.{statement}
 use Rattle.frame.proofs.numbers.samples.Tie as tie
 
-width-of-requires : tie.Need-width-of-requires
-width-of-requires c κs = search needs
-
-height-of-requires : tie.Need-height-of-requires
-height-of-requires c κs = search needs
-
 mul-result : tie.Need-mul-result
 mul-result c =
     let S = c .before .before in
@@ -20,4 +14,4 @@ returns : tie.Need-returns
 returns c = cc
 
 pub samples-spec : {M : Type 1} → statement M
-samples-spec = tie.close (tie.spec width-of-requires height-of-requires mul-result returns)
+samples-spec = tie.close (tie.spec (λ c κs. search needs) (λ c κs. search needs) mul-result returns)

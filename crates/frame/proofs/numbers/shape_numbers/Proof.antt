@@ -8,30 +8,6 @@ use borrow.Author.Needs.{needs}
 use Rattle.frame.proofs.numbers.shape_numbers.Statement.{statement}
 use Rattle.frame.proofs.numbers.shape_numbers.Tie as tie
 
-is-small-requires : tie.Need-is-small-requires
-is-small-requires c κs = search needs
-
-ask-requires : tie.Need-ask-requires
-ask-requires c κs = search needs
-
-is-present-requires : tie.Need-is-present-requires
-is-present-requires c κs = search needs
-
-ask-requires-2 : tie.Need-ask-requires-2
-ask-requires-2 c κs = search needs
-
-depth-known-requires : tie.Need-depth-known-requires
-depth-known-requires c κs = search needs
-
-ask-requires-3 : tie.Need-ask-requires-3
-ask-requires-3 c κs = search needs
-
-format-known-requires : tie.Need-format-known-requires
-format-known-requires c κs = search needs
-
-ask-requires-4 : tie.Need-ask-requires-4
-ask-requires-4 c κs = search needs
-
 returns : tie.Need-returns
 unfolding shapeNumbers
 returns c =
@@ -51,12 +27,12 @@ pub shape-numbers-spec : {M : Type 1} → statement M
 shape-numbers-spec =
     tie.close
     (tie.spec
-    is-small-requires
-    ask-requires
-    is-present-requires
-    ask-requires-2
-    depth-known-requires
-    ask-requires-3
-    format-known-requires
-    ask-requires-4
+    (λ c κs. search needs)
+    (λ c κs. search needs)
+    (λ c κs. search needs)
+    (λ c κs. search needs)
+    (λ c κs. search needs)
+    (λ c κs. search needs)
+    (λ c κs. search needs)
+    (λ c κs. search needs)
     returns)

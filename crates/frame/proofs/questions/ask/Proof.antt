@@ -8,11 +8,8 @@ use Rattle.frame.proofs.questions.ask.Tie as tie
 returns : tie.Need-returns
 returns c = sym (refused _ _ _ (c .if1 .taken))
 
-returns-2 : tie.Need-returns-2
-returns-2 c = search needs
-
 returns-3 : tie.Need-returns-3
 returns-3 c = search needs
 
 pub ask-spec : {M : Type 1} → statement M
-ask-spec = tie.close (tie.spec returns returns-2 returns-3)
+ask-spec = tie.close (tie.spec returns (λ c. search needs) returns-3)

@@ -5,15 +5,9 @@ use borrow.Author.Needs.{needs}
 use Rattle.frame.proofs.questions.both_low.Statement.{statement}
 use Rattle.frame.proofs.questions.both_low.Tie as tie
 
-samples-low-requires : tie.Need-samples-low-requires
-samples-low-requires c κs = search needs
-
-samples-low-requires-2 : tie.Need-samples-low-requires-2
-samples-low-requires-2 c κs = search needs
-
 returns : tie.Need-returns
 unfolding allLow
 returns c = rw (c .before .samples-low .ensures, c .samples-low2 .ensures, and-true)
 
 pub both-low-spec : {M : Type 1} → statement M
-both-low-spec = tie.close (tie.spec samples-low-requires samples-low-requires-2 returns)
+both-low-spec = tie.close (tie.spec (λ c κs. search needs) (λ c κs. search needs) returns)

@@ -4,12 +4,9 @@ use Rattle.frame.specs.Questions.{each}
 use Rattle.frame.proofs.questions.four_are.Statement.{statement}
 use Rattle.frame.proofs.questions.four_are.Tie as tie
 
-both-are-requires : tie.Need-both-are-requires
-both-are-requires c κs = search needs
-
 returns : tie.Need-returns
 unfolding each
 returns c = rw (c .both-are .ensures)
 
 pub four-are-spec : {M : Type 1} → statement M
-four-are-spec = tie.close (tie.spec both-are-requires returns)
+four-are-spec = tie.close (tie.spec (λ c κs. search needs) returns)

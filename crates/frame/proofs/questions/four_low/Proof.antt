@@ -5,15 +5,9 @@ use borrow.Author.Needs.{needs}
 use Rattle.frame.proofs.questions.four_low.Statement.{statement}
 use Rattle.frame.proofs.questions.four_low.Tie as tie
 
-samples-low-requires : tie.Need-samples-low-requires
-samples-low-requires c κs = search needs
-
-frame-low-requires : tie.Need-frame-low-requires
-frame-low-requires c κs = search needs
-
 returns : tie.Need-returns
 unfolding allLow
 returns c = and-is (c .before .samples-low .ensures) (c .frame-low .ensures)
 
 pub four-low-spec : {M : Type 1} → statement M
-four-low-spec = tie.close (tie.spec samples-low-requires frame-low-requires returns)
+four-low-spec = tie.close (tie.spec (λ c κs. search needs) (λ c κs. search needs) returns)

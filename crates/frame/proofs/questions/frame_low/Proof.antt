@@ -5,15 +5,9 @@ use borrow.Author.Needs.{needs}
 use Rattle.frame.proofs.questions.frame_low.Statement.{statement}
 use Rattle.frame.proofs.questions.frame_low.Tie as tie
 
-samples-low-requires : tie.Need-samples-low-requires
-samples-low-requires c κs = search needs
-
-both-low-requires : tie.Need-both-low-requires
-both-low-requires c κs = search needs
-
 returns : tie.Need-returns
 unfolding allLow
 returns c = and-is (c .before .samples-low .ensures) (c .both-low .ensures)
 
 pub frame-low-spec : {M : Type 1} → statement M
-frame-low-spec = tie.close (tie.spec samples-low-requires both-low-requires returns)
+frame-low-spec = tie.close (tie.spec (λ c κs. search needs) (λ c κs. search needs) returns)

@@ -24,77 +24,17 @@ abbrev μ-loop2 : tie.MeasureT-loop2
 loop-holds : tie.Need-loop-holds Inv-loop μ-loop Inv-loop2 μ-loop2
 loop-holds c = (refl, omega arith, gathered-none (c .args .depth) (now (c .args .plane)) (quarters-none (c .args .depth) (now (c .args .plane)) _))
 
-mul-bits : tie.Need-mul-bits Inv-loop μ-loop Inv-loop2 μ-loop2
-mul-bits c = search needs
-
-shared-slice-read-bits : tie.Need-shared-slice-read-bits Inv-loop μ-loop Inv-loop2 μ-loop2
-shared-slice-read-bits c = search needs
-
-add-bits : tie.Need-add-bits Inv-loop μ-loop Inv-loop2 μ-loop2
-add-bits c = search needs
-
-mul-bits-2 : tie.Need-mul-bits-2 Inv-loop μ-loop Inv-loop2 μ-loop2
-mul-bits-2 c = search needs
-
-shared-slice-read-bits-2 : tie.Need-shared-slice-read-bits-2 Inv-loop μ-loop Inv-loop2 μ-loop2
-shared-slice-read-bits-2 c = search needs
-
-mul-bits-3 : tie.Need-mul-bits-3 Inv-loop μ-loop Inv-loop2 μ-loop2
-mul-bits-3 c = search needs
-
-add-bits-2 : tie.Need-add-bits-2 Inv-loop μ-loop Inv-loop2 μ-loop2
-add-bits-2 c = search needs
-
-mul-bits-4 : tie.Need-mul-bits-4 Inv-loop μ-loop Inv-loop2 μ-loop2
-mul-bits-4 c = search needs
-
-shared-slice-read-bits-3 : tie.Need-shared-slice-read-bits-3 Inv-loop μ-loop Inv-loop2 μ-loop2
-shared-slice-read-bits-3 c = search needs
-
-mul-bits-5 : tie.Need-mul-bits-5 Inv-loop μ-loop Inv-loop2 μ-loop2
-mul-bits-5 c = search needs
-
-add-bits-3 : tie.Need-add-bits-3 Inv-loop μ-loop Inv-loop2 μ-loop2
-add-bits-3 c = search needs
-
-mul-bits-6 : tie.Need-mul-bits-6 Inv-loop μ-loop Inv-loop2 μ-loop2
-mul-bits-6 c = search needs
-
-shared-slice-read-bits-4 : tie.Need-shared-slice-read-bits-4 Inv-loop μ-loop Inv-loop2 μ-loop2
-shared-slice-read-bits-4 c = search needs
-
-add-i : tie.Need-add-i Inv-loop μ-loop Inv-loop2 μ-loop2
-add-i c = search needs
-
-loop-less : tie.Need-loop-less Inv-loop μ-loop Inv-loop2 μ-loop2
-loop-less c = search needs
-
 loop-again : tie.Need-loop-again Inv-loop μ-loop Inv-loop2 μ-loop2
 loop-again c =
     let H = c .before .before .before .before .before .loop in
     let a = c .before .before .before .before .before .before .args in
     (refl, search needs, gathered-quarters (a .depth) (now (a .plane)) _ (H .i) (λ k. c .shared-slice-known4 .given k .fits) (H .inv .2))
 
-mul-i : tie.Need-mul-i Inv-loop μ-loop Inv-loop2 μ-loop2
-mul-i c = search needs
-
 loop2-holds : tie.Need-loop2-holds Inv-loop μ-loop Inv-loop2 μ-loop2
 loop2-holds c =
     let a = c .before .before .args in
     let H = c .before .loop in
     (omega arith, refl, gathered-as (a .depth) (now (a .plane)) (quarters-all (a .depth) (now (a .plane)) _ (H .i) (omega arith)) (H .inv .2))
-
-mul-bits-7 : tie.Need-mul-bits-7 Inv-loop μ-loop Inv-loop2 μ-loop2
-mul-bits-7 c = search needs
-
-shared-slice-read-bits-5 : tie.Need-shared-slice-read-bits-5 Inv-loop μ-loop Inv-loop2 μ-loop2
-shared-slice-read-bits-5 c = search needs
-
-add-i-2 : tie.Need-add-i-2 Inv-loop μ-loop Inv-loop2 μ-loop2
-add-i-2 c = search needs
-
-loop2-less : tie.Need-loop2-less Inv-loop μ-loop Inv-loop2 μ-loop2
-loop2-less c = search needs
 
 loop2-again : tie.Need-loop2-again Inv-loop μ-loop Inv-loop2 μ-loop2
 loop2-again c =
@@ -108,9 +48,6 @@ returns c =
     let H = c .before .before .loop2 in
     let e : H .i ≡ length (a .plane .now) = omega arith in
     gathered-any (a .depth) (now (a .plane)) (rw e at (H .inv .2)) (c .if1 .taken)
-
-shr-result : tie.Need-shr-result Inv-loop μ-loop Inv-loop2 μ-loop2
-shr-result c = search needs
 
 returns-2 : tie.Need-returns-2 Inv-loop μ-loop Inv-loop2 μ-loop2
 returns-2 c =
@@ -128,29 +65,29 @@ samples-low-spec =
     Inv-loop2
     μ-loop2
     loop-holds
-    mul-bits
-    shared-slice-read-bits
-    add-bits
-    mul-bits-2
-    shared-slice-read-bits-2
-    mul-bits-3
-    add-bits-2
-    mul-bits-4
-    shared-slice-read-bits-3
-    mul-bits-5
-    add-bits-3
-    mul-bits-6
-    shared-slice-read-bits-4
-    add-i
-    loop-less
+    (λ c. search needs)
+    (λ c. search needs)
+    (λ c. search needs)
+    (λ c. search needs)
+    (λ c. search needs)
+    (λ c. search needs)
+    (λ c. search needs)
+    (λ c. search needs)
+    (λ c. search needs)
+    (λ c. search needs)
+    (λ c. search needs)
+    (λ c. search needs)
+    (λ c. search needs)
+    (λ c. search needs)
+    (λ c. search needs)
     loop-again
-    mul-i
+    (λ c. search needs)
     loop2-holds
-    mul-bits-7
-    shared-slice-read-bits-5
-    add-i-2
-    loop2-less
+    (λ c. search needs)
+    (λ c. search needs)
+    (λ c. search needs)
+    (λ c. search needs)
     loop2-again
     returns
-    shr-result
+    (λ c. search needs)
     returns-2)

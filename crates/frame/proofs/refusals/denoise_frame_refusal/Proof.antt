@@ -10,9 +10,6 @@ use borrow.Author.Needs.{needs}
 use Rattle.frame.proofs.refusals.denoise_frame_refusal.Statement.{statement}
 use Rattle.frame.proofs.refusals.denoise_frame_refusal.Tie as tie
 
-frame-numbers-requires : tie.Need-frame-numbers-requires
-frame-numbers-requires c κs = search needs
-
 returns : tie.Need-returns
 unfolding denoiseFrameRefusal frameNumbers shapeNumbers
 returns c =
@@ -22,12 +19,6 @@ returns c =
     let source = now (a .y) ∷ now (a .cb) ∷ now (a .cr) ∷ [] in
     stopped (frameNumbers (a .s) luma chroma) refl (c .before .frame-numbers .ensures)
     (samplesLow (a .s .depth) (source) ∷ []) (c .if1 .taken)
-
-frame-low-requires : tie.Need-frame-low-requires
-frame-low-requires c κs = search needs
-
-ask-requires : tie.Need-ask-requires
-ask-requires c κs = search needs
 
 returns-2 : tie.Need-returns-2
 unfolding denoiseFrameRefusal frameNumbers shapeNumbers
@@ -41,4 +32,4 @@ returns-2 c =
 
 pub denoise-frame-refusal-spec : {M : Type 1} → statement M
 denoise-frame-refusal-spec =
-    tie.close (tie.spec frame-numbers-requires returns frame-low-requires ask-requires returns-2)
+    tie.close (tie.spec (λ c κs. search needs) returns (λ c κs. search needs) (λ c κs. search needs) returns-2)

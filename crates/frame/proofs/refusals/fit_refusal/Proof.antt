@@ -9,18 +9,12 @@ use borrow.Author.Needs.{needs}
 use Rattle.frame.proofs.refusals.fit_refusal.Statement.{statement}
 use Rattle.frame.proofs.refusals.fit_refusal.Tie as tie
 
-frame-refusal-requires : tie.Need-frame-refusal-requires
-frame-refusal-requires c κs = search needs
-
 returns : tie.Need-returns
 unfolding fitRefusal frameRefusal copyQuestions frameNumbers shapeNumbers
 returns c =
     let a = c .before .before .before .before .before .before .before .before .args in
     let qs = copyQuestions (a .s) (now (a .y)) (now (a .cb)) (now (a .cr)) (now (a .dy)) (now (a .dcb)) (now (a .dcr)) in
     stopped qs refl (c .before .frame-refusal .ensures) (lagKnown (a .lag) ∷ []) (c .if1 .taken)
-
-lag-refusal-requires : tie.Need-lag-refusal-requires
-lag-refusal-requires c κs = search needs
 
 returns-2 : tie.Need-returns-2
 unfolding fitRefusal frameRefusal copyQuestions frameNumbers shapeNumbers
@@ -30,4 +24,4 @@ returns-2 c =
     continued qs refl (c .before .before .frame-refusal .ensures) (lagKnown (a .lag) ∷ []) (c .before .if1 .left) (c .lag-refusal .ensures)
 
 pub fit-refusal-spec : {M : Type 1} → statement M
-fit-refusal-spec = tie.close (tie.spec frame-refusal-requires returns lag-refusal-requires returns-2)
+fit-refusal-spec = tie.close (tie.spec (λ c κs. search needs) returns (λ c κs. search needs) returns-2)

@@ -11,9 +11,6 @@ use borrow.Author.Needs.{needs}
 use Rattle.frame.proofs.refusals.frame_refusal.Statement.{statement}
 use Rattle.frame.proofs.refusals.frame_refusal.Tie as tie
 
-frame-numbers-requires : tie.Need-frame-numbers-requires
-frame-numbers-requires c κs = search needs
-
 returns : tie.Need-returns
 unfolding frameRefusal copyQuestions frameNumbers shapeNumbers
 returns c =
@@ -24,15 +21,6 @@ returns c =
     let copy = now (a .dy) ∷ now (a .dcb) ∷ now (a .dcr) ∷ [] in
     stopped (frameNumbers (a .s) (map length luma) (map length chroma)) refl (c .before .frame-numbers .ensures)
     (samplesLow (a .s .depth) (source ++ copy) ∷ []) (c .if1 .taken)
-
-frame-low-requires : tie.Need-frame-low-requires
-frame-low-requires c κs = search needs
-
-frame-low-requires-2 : tie.Need-frame-low-requires-2
-frame-low-requires-2 c κs = search needs
-
-ask-requires : tie.Need-ask-requires
-ask-requires c κs = search needs
 
 returns-2 : tie.Need-returns-2
 unfolding frameRefusal copyQuestions frameNumbers shapeNumbers
@@ -50,9 +38,9 @@ pub frame-refusal-spec : {M : Type 1} → statement M
 frame-refusal-spec =
     tie.close
     (tie.spec
-    frame-numbers-requires
+    (λ c κs. search needs)
     returns
-    frame-low-requires
-    frame-low-requires-2
-    ask-requires
+    (λ c κs. search needs)
+    (λ c κs. search needs)
+    (λ c κs. search needs)
     returns-2)

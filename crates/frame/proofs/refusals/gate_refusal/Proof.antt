@@ -10,9 +10,6 @@ use borrow.Author.Needs.{needs}
 use Rattle.frame.proofs.refusals.gate_refusal.Statement.{statement}
 use Rattle.frame.proofs.refusals.gate_refusal.Tie as tie
 
-gate-numbers-requires : tie.Need-gate-numbers-requires
-gate-numbers-requires c κs = search needs
-
 returns : tie.Need-returns
 unfolding gateRefusal gateNumbers shapeNumbers
 returns c =
@@ -20,12 +17,6 @@ returns c =
     let planes = now (a .a) ∷ now (a .b) ∷ now (a .c) ∷ now (a .d) ∷ [] in
     stopped (gateNumbers (a .s) (a .component) (map length planes)) refl (c .before .gate-numbers .ensures)
     (samplesLow (a .s .depth) (planes) ∷ []) (c .if1 .taken)
-
-four-low-requires : tie.Need-four-low-requires
-four-low-requires c κs = search needs
-
-ask-requires : tie.Need-ask-requires
-ask-requires c κs = search needs
 
 returns-2 : tie.Need-returns-2
 unfolding gateRefusal gateNumbers shapeNumbers
@@ -38,4 +29,4 @@ returns-2 c =
 pub gate-refusal-spec : {M : Type 1} → statement M
 gate-refusal-spec =
     tie.close
-    (tie.spec gate-numbers-requires returns four-low-requires ask-requires returns-2)
+    (tie.spec (λ c κs. search needs) returns (λ c κs. search needs) (λ c κs. search needs) returns-2)

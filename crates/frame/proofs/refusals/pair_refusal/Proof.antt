@@ -10,9 +10,6 @@ use borrow.Author.Needs.{needs}
 use Rattle.frame.proofs.refusals.pair_refusal.Statement.{statement}
 use Rattle.frame.proofs.refusals.pair_refusal.Tie as tie
 
-pair-numbers-requires : tie.Need-pair-numbers-requires
-pair-numbers-requires c κs = search needs
-
 returns : tie.Need-returns
 unfolding pairRefusal pairNumbers
 returns c =
@@ -20,12 +17,6 @@ returns c =
     let planes = now (a .src) ∷ now (a .den) ∷ [] in
     stopped (pairNumbers (a .width) (a .height) (a .depth) (map length planes)) refl (c .before .pair-numbers .ensures)
     (samplesLow (a .depth) (planes) ∷ []) (c .if1 .taken)
-
-both-low-requires : tie.Need-both-low-requires
-both-low-requires c κs = search needs
-
-ask-requires : tie.Need-ask-requires
-ask-requires c κs = search needs
 
 returns-2 : tie.Need-returns-2
 unfolding pairRefusal pairNumbers
@@ -38,4 +29,4 @@ returns-2 c =
 pub pair-refusal-spec : {M : Type 1} → statement M
 pair-refusal-spec =
     tie.close
-    (tie.spec pair-numbers-requires returns both-low-requires ask-requires returns-2)
+    (tie.spec (λ c κs. search needs) returns (λ c κs. search needs) (λ c κs. search needs) returns-2)

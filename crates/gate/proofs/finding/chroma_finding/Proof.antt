@@ -33,12 +33,6 @@ of-plane-requires c κs =
     let S = c .before .before .before .before .before .before in
     (S .pre .0, S .pre .2, S .pre .3, column _ _ (filled _ _ (S .pre .0 .source-size) (c .if2 .left)), search needs)
 
-correlation-of-requires : tie.Need-correlation-of-requires
-correlation-of-requires c κs = search needs
-
-magnitude-requires : tie.Need-magnitude-requires
-magnitude-requires c κs = search needs
-
 returns-3 : tie.Need-returns-3
 returns-3 c =
     let s = c .before .before .before .of-plane .ensures in
@@ -48,9 +42,6 @@ returns-4 : tie.Need-returns-4
 returns-4 c =
     let s = c .before .before .before .before .of-plane .ensures in
     chroma-first _ _ _ (c .before .before .before .before .before .before .if1 .left) (filled _ _ (c .before .before .before .before .before .before .before .before .before .before .before .pre .0 .source-size) (c .before .before .before .before .before .if2 .left)) _ (row _ _ _ (c .before .before .magnitude .ensures) (row-is _ 1 (s .1) (s .2) (c .before .before .before .correlation-of .ensures))) (c .before .if3 .left) _ (s .1) (c .if4 .taken)
-
-second-finding-requires : tie.Need-second-finding-requires
-second-finding-requires c κs = search needs
 
 returns-5 : tie.Need-returns-5
 returns-5 c =
@@ -64,9 +55,9 @@ chroma-finding-spec =
     returns
     returns-2
     of-plane-requires
-    correlation-of-requires
-    magnitude-requires
+    (λ c κs. search needs)
+    (λ c κs. search needs)
     returns-3
     returns-4
-    second-finding-requires
+    (λ c κs. search needs)
     returns-5)

@@ -5,17 +5,8 @@ use Rattle.gate.proofs.Findings.{second-none, second-is}
 use Rattle.gate.proofs.finding.second_finding.Statement.{statement}
 use Rattle.gate.proofs.finding.second_finding.Tie as tie
 
-of-pair-requires : tie.Need-of-pair-requires
-of-pair-requires c κs = search needs
-
 returns : tie.Need-returns
 returns c = second-none _ _ _ (c .before .of-pair .ensures .0) (c .if1 .taken)
-
-sqrt-requires : tie.Need-sqrt-requires
-sqrt-requires c κs = search needs
-
-magnitude-requires : tie.Need-magnitude-requires
-magnitude-requires c κs = search needs
 
 returns-2 : tie.Need-returns-2
 returns-2 c =
@@ -30,4 +21,4 @@ returns-3 c =
 pub second-finding-spec : {M : Type 1} → statement M
 second-finding-spec =
     tie.close
-    (tie.spec of-pair-requires returns sqrt-requires magnitude-requires returns-2 returns-3)
+    (tie.spec (λ c κs. search needs) returns (λ c κs. search needs) (λ c κs. search needs) returns-2 returns-3)

@@ -10,12 +10,6 @@ returns c = unlagged _ _ (c .if1 .taken)
 returns-2 : tie.Need-returns-2
 returns-2 c = narrow _ _ (c .before .if1 .left) (c .if2 .taken)
 
-of-plane-requires : tie.Need-of-plane-requires
-of-plane-requires c κs = search needs
-
-correlation-of-requires : tie.Need-correlation-of-requires
-correlation-of-requires c κs = search needs
-
 returns-3 : tie.Need-returns-3
 returns-3 c =
     let s = c .before .of-plane .ensures in
@@ -24,4 +18,4 @@ returns-3 c =
 pub row-correlation-spec : {M : Type 1} → statement M
 row-correlation-spec =
     tie.close
-    (tie.spec returns returns-2 of-plane-requires correlation-of-requires returns-3)
+    (tie.spec returns returns-2 (λ c κs. search needs) (λ c κs. search needs) returns-3)

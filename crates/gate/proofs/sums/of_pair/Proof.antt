@@ -5,15 +5,6 @@ use Rattle.gate.proofs.PlaneSums.{dot-read}
 use Rattle.gate.proofs.sums.of_pair.Statement.{statement}
 use Rattle.gate.proofs.sums.of_pair.Tie as tie
 
-pair-sums-requires : tie.Need-pair-sums-requires
-pair-sums-requires c κs = search needs
-
-nearest-i64-to-f64-requires : tie.Need-nearest-i64-to-f64-requires
-nearest-i64-to-f64-requires c κs = search needs
-
-nearest-i64-to-f64-requires-2 : tie.Need-nearest-i64-to-f64-requires-2
-nearest-i64-to-f64-requires-2 c κs = search needs
-
 returns : tie.Need-returns
 returns c =
     let S = c .before .before .before .before .before .before .before .before .before in
@@ -27,7 +18,7 @@ pub of-pair-spec : {M : Type 1} → statement M
 of-pair-spec =
     tie.close
     (tie.spec
-    pair-sums-requires
-    nearest-i64-to-f64-requires
-    nearest-i64-to-f64-requires-2
+    (λ c κs. search needs)
+    (λ c κs. search needs)
+    (λ c κs. search needs)
     returns)

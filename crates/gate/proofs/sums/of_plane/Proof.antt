@@ -9,15 +9,6 @@ use Rattle.gate.proofs.PlaneSums.{squares-read, squares-fit, dot-read, 
 use Rattle.gate.proofs.sums.of_plane.Statement.{statement}
 use Rattle.gate.proofs.sums.of_plane.Tie as tie
 
-plane-sums-requires : tie.Need-plane-sums-requires
-plane-sums-requires c κs = search needs
-
-nearest-i64-to-f64-requires : tie.Need-nearest-i64-to-f64-requires
-nearest-i64-to-f64-requires c κs = search needs
-
-nearest-i64-to-f64-requires-2 : tie.Need-nearest-i64-to-f64-requires-2
-nearest-i64-to-f64-requires-2 c κs = search needs
-
 squares : (c : tie.After-struct-told3) → let A = c .before .before .before .before .before .before .before .before .before .args in
     toZ w64 (ofZ w64 (c .before .before .before .before .before .before .plane-sums .result .squares)) ≡ pos (planeSquares (A .shift) (A .src .now) (A .den .now))
 squares c =
@@ -44,8 +35,8 @@ pub of-plane-spec : {M : Type 1} → statement M
 of-plane-spec =
     tie.close
     (tie.spec
-    plane-sums-requires
-    nearest-i64-to-f64-requires
-    nearest-i64-to-f64-requires-2
+    (λ c κs. search needs)
+    (λ c κs. search needs)
+    (λ c κs. search needs)
     cast-t10
     returns)

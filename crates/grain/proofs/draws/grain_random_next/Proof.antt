@@ -7,16 +7,10 @@ use Rattle.grain.specs.declared.draws.DrawRecord.{DrawRecord}
 use Rattle.grain.proofs.draws.grain_random_next.Statement.{statement}
 use Rattle.grain.proofs.draws.grain_random_next.Tie as tie
 
-draw-from-requires : tie.Need-draw-from-requires
-draw-from-requires c κs = search needs
-
-record-of-requires : tie.Need-record-of-requires
-record-of-requires c κs = search needs
-
 returns : tie.Need-returns
 returns c =
     let step = c .before .before .draw-from in
     ap (λ (d : DrawRecord). (d, step .result .register .state)) (c .record-of .ensures) ∙ ap ofNext (step .ensures)
 
 pub grain-random-next-spec : {M : Type 1} → statement M
-grain-random-next-spec = tie.close (tie.spec draw-from-requires record-of-requires returns)
+grain-random-next-spec = tie.close (tie.spec (λ c κs. search needs) (λ c κs. search needs) returns)

@@ -11,12 +11,6 @@ use Rattle.grain.proofs.draws.grain_random_step.Tie as tie
 beside : RandomRegister → DrawRecord → StepRecord
 beside r d = record { refusal = d .refusal; value = d .value; after = r }
 
-stepped-requires : tie.Need-stepped-requires
-stepped-requires c κs = search needs
-
-record-of-requires : tie.Need-record-of-requires
-record-of-requires c κs = search needs
-
 returns : tie.Need-returns
 unfolding beside
 returns c =
@@ -24,4 +18,4 @@ returns c =
     ap (beside (step .result .register)) (c .before .record-of .ensures) ∙ ap ofStepped (step .ensures)
 
 pub grain-random-step-spec : {M : Type 1} → statement M
-grain-random-step-spec = tie.close (tie.spec stepped-requires record-of-requires returns)
+grain-random-step-spec = tie.close (tie.spec (λ c κs. search needs) (λ c κs. search needs) returns)

@@ -5,14 +5,8 @@ use Rattle.grain.specs.Records.{ofRho}
 use Rattle.grain.proofs.gates.grain_lag_h_rho.Statement.{statement}
 use Rattle.grain.proofs.gates.grain_lag_h_rho.Tie as tie
 
-lag-h-rho-requires : tie.Need-lag-h-rho-requires
-lag-h-rho-requires c κs = search needs
-
-record-of-requires : tie.Need-record-of-requires
-record-of-requires c κs = search needs
-
 returns : tie.Need-returns
 returns c = c .record-of .ensures ∙ ap ofRho (c .before .lag-h-rho .ensures)
 
 pub grain-lag-h-rho-spec : {M : Type 1} → statement M
-grain-lag-h-rho-spec = tie.close (tie.spec lag-h-rho-requires record-of-requires returns)
+grain-lag-h-rho-spec = tie.close (tie.spec (λ c κs. search needs) (λ c κs. search needs) returns)

@@ -4,12 +4,6 @@ use borrow.Author.Needs.{needs}
 use Rattle.grain.proofs.gates.record_of.Statement.{statement}
 use Rattle.grain.proofs.gates.record_of.Tie as tie
 
-enum-known-rho : tie.Need-enum-known-rho
-enum-known-rho c = search needs
-
-enum-known-rho-2 : tie.Need-enum-known-rho-2
-enum-known-rho-2 c = search needs
-
 returns : tie.Need-returns
 unfolding ofBits
 returns c = rw (c .before .rho .given .1)
@@ -18,4 +12,4 @@ returns-2 : tie.Need-returns-2
 returns-2 c = rw (c .before .rho2 .given .1)
 
 pub record-of-spec : {M : Type 1} → statement M
-record-of-spec = tie.close (tie.spec enum-known-rho enum-known-rho-2 returns returns-2)
+record-of-spec = tie.close (tie.spec (λ c. search needs) (λ c. search needs) returns returns-2)

@@ -51,23 +51,11 @@ stored c =
 add-sums : tie.Need-add-sums Inv-loop μ-loop
 add-sums c = fits (stored c)
 
-mul-t11 : tie.Need-mul-t11 Inv-loop μ-loop
-mul-t11 c = search needs
-
-slice-set-from-sums : tie.Need-slice-set-from-sums Inv-loop μ-loop
-slice-set-from-sums c = search needs
-
-add-x : tie.Need-add-x Inv-loop μ-loop
-add-x c = search needs
-
 loop-less : tie.Need-loop-less Inv-loop μ-loop
 loop-less c = simp length-set (omega arith)
 
 loop-again : tie.Need-loop-again Inv-loop μ-loop
 loop-again c = fill-turn _ _ _ (c .before .before .before .loop .inv) (omega arith) (again (stored c) .eq)
-
-same-length : tie.Need-same-length Inv-loop μ-loop
-same-length c = search needs
 
 returns : tie.Need-returns Inv-loop μ-loop
 returns c =
@@ -85,10 +73,10 @@ added-rows-spec =
     noise-at-requires
     noise-at-requires-2
     add-sums
-    mul-t11
-    slice-set-from-sums
-    add-x
+    (λ c. search needs)
+    (λ c. search needs)
+    (λ c. search needs)
     loop-less
     loop-again
-    same-length
+    (λ c. search needs)
     returns)

@@ -10,12 +10,6 @@ use Rattle.noise.proofs.Averages.{bit-le, RowsOf, in-height, sums-small
 use Rattle.noise.proofs.average.average_line.Statement.{statement}
 use Rattle.noise.proofs.average.average_line.Tie as tie
 
-luma-row-requires : tie.Need-luma-row-requires
-luma-row-requires c κs = search needs
-
-sub-y-requires : tie.Need-sub-y-requires
-sub-y-requires c κs = search needs
-
 luma-row-requires-2 : tie.Need-luma-row-requires-2
 luma-row-requires-2 c κs = (c .before .before .before .before .pre .1, le-trans (le-of-eq (c .sub-y .ensures)) (bit-le (leb (c .before .before .before .before .args .format) 1)))
 
@@ -38,9 +32,6 @@ rows c =
       sums-are = c .added-rows .ensures;
     }
 
-sub-x-requires : tie.Need-sub-x-requires
-sub-x-requires c κs = search needs
-
 quarters-line-requires : tie.Need-quarters-line-requires
 quarters-line-requires c κs =
     let S = c .before .before .before .before .before .before .before .before .before .before .before in
@@ -49,12 +40,6 @@ quarters-line-requires c κs =
       sums-small _ (S .pre .0) (S .args .r) (S .pre .1) T,
       line-count _ (S .pre .0) (S .args .r) (S .pre .1) T (S .pre .3) (c .before .sub-x .ensures),
     )
-
-same-length : tie.Need-same-length
-same-length c = search needs
-
-same-length-2 : tie.Need-same-length-2
-same-length-2 c = search needs
 
 returns : tie.Need-returns
 returns c =
@@ -65,12 +50,12 @@ pub average-line-spec : {M : Type 1} → statement M
 average-line-spec =
     tie.close
     (tie.spec
-    luma-row-requires
-    sub-y-requires
+    (λ c κs. search needs)
+    (λ c κs. search needs)
     luma-row-requires-2
     added-rows-requires
-    sub-x-requires
+    (λ c κs. search needs)
     quarters-line-requires
-    same-length
-    same-length-2
+    (λ c. search needs)
+    (λ c. search needs)
     returns)

@@ -25,19 +25,10 @@ abbrev μ-loop : tie.MeasureT-loop
 loop-holds : tie.Need-loop-holds Inv-loop μ-loop
 loop-holds c = (refl, refl, omega arith, fill-starts _ _)
 
-sub-loop : tie.Need-sub-loop Inv-loop μ-loop
-sub-loop c = search needs
-
 halved-part-requires : tie.Need-halved-part-requires Inv-loop μ-loop
 halved-part-requires c κs =
     let H = c .before .before .loop in
     (c .before .before .before .pre .0, omega arith, omega (arith, H .inv .3 .same), H .inv .3 .front)
-
-add-from : tie.Need-add-from Inv-loop μ-loop
-add-from c = search needs
-
-loop-less : tie.Need-loop-less Inv-loop μ-loop
-loop-less c = omega arith
 
 loop-again : tie.Need-loop-again Inv-loop μ-loop
 loop-again c =
@@ -62,9 +53,6 @@ paired c =
       front = tabulate-at _ _ _ _ e (c .halved-part2 .ensures);
     }
 
-sub-halved-part : tie.Need-sub-halved-part Inv-loop μ-loop
-sub-halved-part c = search needs
-
 halved-part-requires-2 : tie.Need-halved-part-requires-2 Inv-loop μ-loop
 halved-part-requires-2 c κs =
     let H = c .before .before .loop in
@@ -72,9 +60,6 @@ halved-part-requires-2 c κs =
 
 sub-a : tie.Need-sub-a Inv-loop μ-loop
 sub-a c = omega (arith, paired (c .before .before) .same)
-
-mul-a : tie.Need-mul-a Inv-loop μ-loop
-mul-a c = search needs
 
 shared-slice-copy-out-a : tie.Need-shared-slice-copy-out-a Inv-loop μ-loop
 shared-slice-copy-out-a c = omega (arith, paired (c .before .before) .same)
@@ -89,9 +74,6 @@ stored c =
 
 add-line : tie.Need-add-line Inv-loop μ-loop
 add-line c = fits (stored c)
-
-mul-t17 : tie.Need-mul-t17 Inv-loop μ-loop
-mul-t17 c = search needs
 
 slice-set-from-line : tie.Need-slice-set-from-line Inv-loop μ-loop
 slice-set-from-line c = c .before .if1 .taken
@@ -115,18 +97,18 @@ halved-line-spec =
     Inv-loop
     μ-loop
     loop-holds
-    sub-loop
+    (λ c. search needs)
     halved-part-requires
-    add-from
-    loop-less
+    (λ c. search needs)
+    (λ c. omega arith)
     loop-again
-    sub-halved-part
+    (λ c. search needs)
     halved-part-requires-2
     sub-a
-    mul-a
+    (λ c. search needs)
     shared-slice-copy-out-a
     add-line
-    mul-t17
+    (λ c. search needs)
     slice-set-from-line
     same-length
     returns

@@ -26,30 +26,6 @@ loop-holds c =
     let S = c in
     (omega arith, record { count = omega arith; same = refl; front = tabulate-at _ _ (S .args .from) (S .args .from + 0) (omega arith) (S .pre .3) })
 
-add-k : tie.Need-add-k Inv-loop μ-loop
-add-k c = search needs
-
-mul-a : tie.Need-mul-a Inv-loop μ-loop
-mul-a c = search needs
-
-mul-a-2 : tie.Need-mul-a-2 Inv-loop μ-loop
-mul-a-2 c = search needs
-
-shared-slice-copy-out-a : tie.Need-shared-slice-copy-out-a Inv-loop μ-loop
-shared-slice-copy-out-a c = omega arith
-
-mul-b : tie.Need-mul-b Inv-loop μ-loop
-mul-b c = search needs
-
-add-b : tie.Need-add-b Inv-loop μ-loop
-add-b c = search needs
-
-mul-b-2 : tie.Need-mul-b-2 Inv-loop μ-loop
-mul-b-2 c = search needs
-
-shared-slice-copy-out-b : tie.Need-shared-slice-copy-out-b Inv-loop μ-loop
-shared-slice-copy-out-b c = omega arith
-
 -- what a turn stores
 stored : (c : tie.After-b Inv-loop μ-loop) → let A = c .before .before .before .before .args in
     let k = A .from + c .before .before .before .loop .i in
@@ -59,27 +35,12 @@ stored c = even-is _ (c .before .before .before .before .pre .0) _ (omega arith)
 add-line : tie.Need-add-line Inv-loop μ-loop
 add-line c = fits (stored c)
 
-mul-t10 : tie.Need-mul-t10 Inv-loop μ-loop
-mul-t10 c = search needs
-
-slice-set-from-line : tie.Need-slice-set-from-line Inv-loop μ-loop
-slice-set-from-line c = search needs
-
-add-i : tie.Need-add-i Inv-loop μ-loop
-add-i c = search needs
-
-loop-less : tie.Need-loop-less Inv-loop μ-loop
-loop-less c = omega arith
-
 loop-again : tie.Need-loop-again Inv-loop μ-loop
 loop-again c =
     let A = c .before .before .before .before .args in
     let H = c .before .before .before .loop in
     let e : A .from + H .i + 1 ≡ A .from + (H .i + 1) = omega arith in
     (omega arith, rw e at (fill-turn _ _ _ (H .inv .1) (omega arith) (again (stored c) .eq)))
-
-same-length : tie.Need-same-length Inv-loop μ-loop
-same-length c = search needs
 
 returns : tie.Need-returns Inv-loop μ-loop
 returns c =
@@ -94,19 +55,19 @@ halved-part-spec =
     Inv-loop
     μ-loop
     loop-holds
-    add-k
-    mul-a
-    mul-a-2
-    shared-slice-copy-out-a
-    mul-b
-    add-b
-    mul-b-2
-    shared-slice-copy-out-b
+    (λ c. search needs)
+    (λ c. search needs)
+    (λ c. search needs)
+    (λ c. omega arith)
+    (λ c. search needs)
+    (λ c. search needs)
+    (λ c. search needs)
+    (λ c. omega arith)
     add-line
-    mul-t10
-    slice-set-from-line
-    add-i
-    loop-less
+    (λ c. search needs)
+    (λ c. search needs)
+    (λ c. search needs)
+    (λ c. omega arith)
     loop-again
-    same-length
+    (λ c. search needs)
     returns)

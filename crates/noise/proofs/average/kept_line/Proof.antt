@@ -23,12 +23,6 @@ abbrev μ-loop : tie.MeasureT-loop
 loop-holds : tie.Need-loop-holds Inv-loop μ-loop
 loop-holds c = fill-starts _ _
 
-mul-a : tie.Need-mul-a Inv-loop μ-loop
-mul-a c = search needs
-
-shared-slice-copy-out-a : tie.Need-shared-slice-copy-out-a Inv-loop μ-loop
-shared-slice-copy-out-a c = omega arith
-
 -- what a turn stores
 stored : (c : tie.After-a Inv-loop μ-loop) → let A = c .before .before .before .args in
     Is w16 (toZ w16 (ofZ w16 (at (A .sums .now) (c .before .before .loop .i))) *ℤ pos 2) (quartered 0 (A .sums .now) (c .before .before .loop .i))
@@ -37,23 +31,11 @@ stored c = kept-is _ (c .before .before .before .pre .0) (c .before .before .loo
 mul-line : tie.Need-mul-line Inv-loop μ-loop
 mul-line c = fits (stored c)
 
-mul-t5 : tie.Need-mul-t5 Inv-loop μ-loop
-mul-t5 c = search needs
-
-slice-set-from-line : tie.Need-slice-set-from-line Inv-loop μ-loop
-slice-set-from-line c = search needs
-
-add-i : tie.Need-add-i Inv-loop μ-loop
-add-i c = search needs
-
 loop-less : tie.Need-loop-less Inv-loop μ-loop
 loop-less c = simp length-set (omega arith)
 
 loop-again : tie.Need-loop-again Inv-loop μ-loop
 loop-again c = fill-turn _ _ _ (c .before .before .loop .inv) (search needs) (again (stored c) .eq)
-
-same-length : tie.Need-same-length Inv-loop μ-loop
-same-length c = search needs
 
 returns : tie.Need-returns Inv-loop μ-loop
 returns c = fill-ends _ _ (c .before .loop .inv) (search needs)
@@ -65,13 +47,13 @@ kept-line-spec =
     Inv-loop
     μ-loop
     loop-holds
-    mul-a
-    shared-slice-copy-out-a
+    (λ c. search needs)
+    (λ c. omega arith)
     mul-line
-    mul-t5
-    slice-set-from-line
-    add-i
+    (λ c. search needs)
+    (λ c. search needs)
+    (λ c. search needs)
     loop-less
     loop-again
-    same-length
+    (λ c. search needs)
     returns)

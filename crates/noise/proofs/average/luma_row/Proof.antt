@@ -8,9 +8,6 @@ use Rattle.noise.proofs.Averages.{bit-le, first-row}
 use Rattle.noise.proofs.average.luma_row.Statement.{statement}
 use Rattle.noise.proofs.average.luma_row.Tie as tie
 
-sub-y-requires : tie.Need-sub-y-requires
-sub-y-requires c κs = search needs
-
 add-held : tie.Need-add-held
 add-held c = omega (arith, c .sub-y .ensures, bit-le (leb (c .before .args .format) 1))
 
@@ -20,9 +17,6 @@ mul-held c = omega (arith, first-row (c .before .args .format) (c .before .args 
 add-held-2 : tie.Need-add-held-2
 add-held-2 c = omega (arith, first-row (c .before .args .format) (c .before .args .r) (c .sub-y .result) (c .sub-y .ensures))
 
-held-requires : tie.Need-held-requires
-held-requires c κs = search needs
-
 returns : tie.Need-returns
 returns c =
     let A = c .before .before .args in
@@ -30,4 +24,4 @@ returns c =
 
 pub luma-row-spec : {M : Type 1} → statement M
 luma-row-spec =
-    tie.close (tie.spec sub-y-requires add-held mul-held add-held-2 held-requires returns)
+    tie.close (tie.spec (λ c κs. search needs) add-held mul-held add-held-2 (λ c κs. search needs) returns)

@@ -23,18 +23,12 @@ halved-line-requires c κs =
     let S = c .before .before in
     (S .pre .1, subst (λ (s : ℕ). length (S .args .line .now) ≡ columns s (length (S .args .sums .now))) (one (S .args .sub) (S .pre .0) (c .before .if1 .left)) (S .pre .2))
 
-same-length : tie.Need-same-length
-same-length c = search needs
-
 returns : tie.Need-returns
 returns c =
     let S = c .before .before .before .before in
     let A = S .args in
     subst (λ (s : ℕ). c .before .kept-line .last .1 .0 ≡ tabulate (length (A .line .now)) (quartered s (A .sums .now)))
     (sym (c .before .before .before .if1 .taken)) (c .before .kept-line .ensures)
-
-same-length-2 : tie.Need-same-length-2
-same-length-2 c = search needs
 
 returns-2 : tie.Need-returns-2
 returns-2 c =
@@ -46,4 +40,4 @@ returns-2 c =
 pub quarters-line-spec : {M : Type 1} → statement M
 quarters-line-spec =
     tie.close
-    (tie.spec kept-line-requires halved-line-requires same-length returns same-length-2 returns-2)
+    (tie.spec kept-line-requires halved-line-requires (λ c. search needs) returns (λ c. search needs) returns-2)

@@ -23,28 +23,10 @@ loop-holds : tie.Need-loop-holds Inv-loop μ-loop
 unfolding sumTo
 loop-holds c = (omega arith, refl)
 
-add-x : tie.Need-add-x Inv-loop μ-loop
-add-x c = search needs
-
-mul-x : tie.Need-mul-x Inv-loop μ-loop
-mul-x c = search needs
-
-shared-slice-copy-out-x : tie.Need-shared-slice-copy-out-x Inv-loop μ-loop
-shared-slice-copy-out-x c = search needs
-
 cast-x : tie.Need-cast-x Inv-loop μ-loop
 cast-x c =
     let A = c .before .before .before .args in
     fits (wide32 (at (A .p .now) (A .from + c .before .before .loop .i)) (record { sfits = c .x .given }))
-
-add-y : tie.Need-add-y Inv-loop μ-loop
-add-y c = search needs
-
-mul-y : tie.Need-mul-y Inv-loop μ-loop
-mul-y c = search needs
-
-shared-slice-copy-out-y : tie.Need-shared-slice-copy-out-y Inv-loop μ-loop
-shared-slice-copy-out-y c = search needs
 
 cast-y : tie.Need-cast-y Inv-loop μ-loop
 cast-y c =
@@ -69,12 +51,6 @@ added c = block-turn (c .before .before .before .before .pre .0) (omega arith) _
 add-sum : tie.Need-add-sum Inv-loop μ-loop
 add-sum c = fits (added c)
 
-add-i : tie.Need-add-i Inv-loop μ-loop
-add-i c = search needs
-
-loop-less : tie.Need-loop-less Inv-loop μ-loop
-loop-less c = search needs
-
 loop-again : tie.Need-loop-again Inv-loop μ-loop
 loop-again c = (omega arith, again (added c) .eq)
 
@@ -88,17 +64,17 @@ block-spec =
     Inv-loop
     μ-loop
     loop-holds
-    add-x
-    mul-x
-    shared-slice-copy-out-x
+    (λ c. search needs)
+    (λ c. search needs)
+    (λ c. search needs)
     cast-x
-    add-y
-    mul-y
-    shared-slice-copy-out-y
+    (λ c. search needs)
+    (λ c. search needs)
+    (λ c. search needs)
     cast-y
     mul-sum
     add-sum
-    add-i
-    loop-less
+    (λ c. search needs)
+    (λ c. search needs)
     loop-again
     returns)

@@ -24,9 +24,6 @@ loop-holds : tie.Need-loop-holds Inv-loop μ-loop
 unfolding sumTo
 loop-holds c = (refl, omega arith, refl)
 
-sub-loop : tie.Need-sub-loop Inv-loop μ-loop
-sub-loop c = search needs
-
 block-requires : tie.Need-block-requires Inv-loop μ-loop
 block-requires c κs = (c .before .before .pre .0, omega arith)
 
@@ -45,17 +42,8 @@ added c =
 add-sum : tie.Need-add-sum Inv-loop μ-loop
 add-sum c = fits (added c)
 
-add-from : tie.Need-add-from Inv-loop μ-loop
-add-from c = search needs
-
-loop-less : tie.Need-loop-less Inv-loop μ-loop
-loop-less c = search needs
-
 loop-again : tie.Need-loop-again Inv-loop μ-loop
 loop-again c = (refl, omega arith, again (added c) .eq)
-
-sub-block : tie.Need-sub-block Inv-loop μ-loop
-sub-block c = search needs
 
 block-requires-2 : tie.Need-block-requires-2 Inv-loop μ-loop
 block-requires-2 c κs = (fewer _ (omega arith) (c .before .before .pre .0), omega arith)
@@ -86,14 +74,14 @@ dot-by-spec =
     Inv-loop
     μ-loop
     loop-holds
-    sub-loop
+    (λ c. search needs)
     block-requires
     cast-part
     add-sum
-    add-from
-    loop-less
+    (λ c. search needs)
+    (λ c. search needs)
     loop-again
-    sub-block
+    (λ c. search needs)
     block-requires-2
     cast-rest
     add-result

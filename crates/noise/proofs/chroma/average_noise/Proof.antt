@@ -24,9 +24,6 @@ loop-holds : tie.Need-loop-holds Inv-loop μ-loop
 unfolding sumTo
 loop-holds c = (omega arith, refl)
 
-sub-loop : tie.Need-sub-loop Inv-loop μ-loop
-sub-loop c = search needs
-
 noise-block-requires : tie.Need-noise-block-requires Inv-loop μ-loop
 noise-block-requires c κs = (c .before .before .before .before .pre, omega arith, omega arith)
 
@@ -44,17 +41,8 @@ added c =
 add-sum : tie.Need-add-sum Inv-loop μ-loop
 add-sum c = fits (added c)
 
-add-from : tie.Need-add-from Inv-loop μ-loop
-add-from c = search needs
-
-loop-less : tie.Need-loop-less Inv-loop μ-loop
-loop-less c = search needs
-
 loop-again : tie.Need-loop-again Inv-loop μ-loop
 loop-again c = (omega arith, again (added c) .eq)
-
-sub-noise-block : tie.Need-sub-noise-block Inv-loop μ-loop
-sub-noise-block c = search needs
 
 noise-block-requires-2 : tie.Need-noise-block-requires-2 Inv-loop μ-loop
 noise-block-requires-2 c κs = (c .before .before .before .before .pre, omega arith, omega arith)
@@ -84,14 +72,14 @@ average-noise-spec =
     Inv-loop
     μ-loop
     loop-holds
-    sub-loop
+    (λ c. search needs)
     noise-block-requires
     cast-part
     add-sum
-    add-from
-    loop-less
+    (λ c. search needs)
+    (λ c. search needs)
     loop-again
-    sub-noise-block
+    (λ c. search needs)
     noise-block-requires-2
     cast-rest
     add-result

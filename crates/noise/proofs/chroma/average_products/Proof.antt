@@ -7,15 +7,6 @@ use Rattle.noise.proofs.ChromaSums.{narrow}
 use Rattle.noise.proofs.chroma.average_products.Statement.{statement}
 use Rattle.noise.proofs.chroma.average_products.Tie as tie
 
-blank-line-requires : tie.Need-blank-line-requires
-blank-line-requires c κs = search needs
-
-blank-line-requires-2 : tie.Need-blank-line-requires-2
-blank-line-requires-2 c κs = search needs
-
-array-borrow-prefix-sums : tie.Need-array-borrow-prefix-sums
-array-borrow-prefix-sums c = search needs
-
 slice-aggregate-average-rows : tie.Need-slice-aggregate-average-rows
 slice-aggregate-average-rows c = sym (length-take-le (c .before .before .before .before .before .before .before .before .before .args .w) (c .before .before .blank-line .result) (search needs))
 
@@ -37,9 +28,9 @@ pub average-products-spec : {M : Type 1} → statement M
 average-products-spec =
     tie.close
     (tie.spec
-    blank-line-requires
-    blank-line-requires-2
-    array-borrow-prefix-sums
+    (λ c κs. search needs)
+    (λ c κs. search needs)
+    (λ c. search needs)
     slice-aggregate-average-rows
     array-borrow-prefix-averages
     slice-aggregate-average-rows-2

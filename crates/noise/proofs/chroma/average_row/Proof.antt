@@ -22,12 +22,6 @@ average-noise-requires c κs = let S = c .before .before .before .before .before
 average-noise-requires-2 : tie.Need-average-noise-requires-2
 average-noise-requires-2 c κs = let S = c .before .before .before .before .before .before .before .before .before .before .before .before .before .before in averages-along _ (S .pre .1) (S .args .r) (S .pre .2) (c .before .before .before .before .before .average-line .ensures)
 
-same-length : tie.Need-same-length
-same-length c = search needs
-
-same-length-2 : tie.Need-same-length-2
-same-length-2 c = search needs
-
 returns : tie.Need-returns
 returns c =
     let S = c .before .before .before .before .before .before .before .before .before .before .before .before .before .before .before in
@@ -48,6 +42,6 @@ average-row-spec =
     dot-wide-requires
     average-noise-requires
     average-noise-requires-2
-    same-length
-    same-length-2
+    (λ c. search needs)
+    (λ c. search needs)
     returns)

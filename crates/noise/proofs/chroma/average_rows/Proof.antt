@@ -102,12 +102,6 @@ loop-again c =
       again (with-cr (c .before .before .before .before .before .before .before .before)) .eq,
     )
 
-same-length : tie.Need-same-length Inv-loop μ-loop
-same-length c = search needs
-
-same-length-2 : tie.Need-same-length-2 Inv-loop μ-loop
-same-length-2 c = search needs
-
 returns : tie.Need-returns Inv-loop μ-loop
 returns c =
     let H = c .before .loop in
@@ -128,6 +122,6 @@ average-rows-spec =
     add-r
     loop-less
     loop-again
-    same-length
-    same-length-2
+    (λ c. search needs)
+    (λ c. search needs)
     returns)

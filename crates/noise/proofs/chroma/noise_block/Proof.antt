@@ -63,12 +63,6 @@ added c = block-more (c .before .before .before .before .before .before .pre .0)
 add-sum : tie.Need-add-sum Inv-loop μ-loop
 add-sum c = fits (added c)
 
-add-i : tie.Need-add-i Inv-loop μ-loop
-add-i c = search needs
-
-loop-less : tie.Need-loop-less Inv-loop μ-loop
-loop-less c = search needs
-
 loop-again : tie.Need-loop-again Inv-loop μ-loop
 loop-again c = (omega arith, again (added c) .eq)
 
@@ -90,7 +84,7 @@ noise-block-spec =
     cast-d
     mul-sum
     add-sum
-    add-i
-    loop-less
+    (λ c. search needs)
+    (λ c. search needs)
     loop-again
     returns)

@@ -15,20 +15,11 @@ noise-places-requires c κs =
     let A = S .args in
     subst (λ (s : ℕ). Places (2 ^ 15) (A .src .now) (A .den .now) (A .start) s (length (A .line .now))) (c .before .if1 .taken) (S .pre)
 
-noise-places-requires-2 : tie.Need-noise-places-requires-2
-noise-places-requires-2 c κs = search needs
-
-same-length : tie.Need-same-length
-same-length c = search needs
-
 returns : tie.Need-returns
 returns c =
     let A = c .before .before .before .before .before .before .args in
     subst (λ (s : ℕ). c .before .noise-places .last .1 .1 .1 .1 .0 ≡ tabulate (length (A .line .now)) (λ i. noise (A .src .now) (A .den .now) (A .start + i * s)))
     (sym (c .before .before .before .if1 .taken)) (c .before .noise-places .ensures)
-
-same-length-2 : tie.Need-same-length-2
-same-length-2 c = search needs
 
 returns-2 : tie.Need-returns-2
 returns-2 c = search needs
@@ -38,8 +29,8 @@ noise-line-spec =
     tie.close
     (tie.spec
     noise-places-requires
-    noise-places-requires-2
-    same-length
+    (λ c κs. search needs)
+    (λ c. search needs)
     returns
-    same-length-2
+    (λ c. search needs)
     returns-2)

@@ -50,15 +50,6 @@ cast-y c = denoised-fits (c .before .before .before .before .pre) (in-line (c .b
 sub-line : tie.Need-sub-line Inv-loop μ-loop
 sub-line c = fits (noise-is (c .before .before .before .before .pre) (in-line (c .before .before)))
 
-mul-t10 : tie.Need-mul-t10 Inv-loop μ-loop
-mul-t10 c = search needs
-
-slice-set-from-line : tie.Need-slice-set-from-line Inv-loop μ-loop
-slice-set-from-line c = search needs
-
-add-i : tie.Need-add-i Inv-loop μ-loop
-add-i c = search needs
-
 loop-less : tie.Need-loop-less Inv-loop μ-loop
 loop-less c = simp length-set (omega arith)
 
@@ -66,9 +57,6 @@ loop-again : tie.Need-loop-again Inv-loop μ-loop
 loop-again c =
     fill-turn _ _ _ (c .before .before .before .loop .inv) (in-line (c .before .before))
     (again (noise-is (c .before .before .before .before .pre) (in-line (c .before .before))) .eq)
-
-same-length : tie.Need-same-length Inv-loop μ-loop
-same-length c = search needs
 
 returns : tie.Need-returns Inv-loop μ-loop
 returns c = fill-ends _ _ (c .before .loop .inv) (search needs)
@@ -89,10 +77,10 @@ noise-places-spec =
     shared-slice-read-y
     cast-y
     sub-line
-    mul-t10
-    slice-set-from-line
-    add-i
+    (λ c. search needs)
+    (λ c. search needs)
+    (λ c. search needs)
     loop-less
     loop-again
-    same-length
+    (λ c. search needs)
     returns)

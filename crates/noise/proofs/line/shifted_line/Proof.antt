@@ -20,26 +20,8 @@ abbrev μ-loop : tie.MeasureT-loop
 loop-holds : tie.Need-loop-holds Inv-loop μ-loop
 loop-holds c = fill-starts _ _
 
-mul-x : tie.Need-mul-x Inv-loop μ-loop
-mul-x c = search needs
-
-shared-slice-copy-out-x : tie.Need-shared-slice-copy-out-x Inv-loop μ-loop
-shared-slice-copy-out-x c = search needs
-
 cast-out : tie.Need-cast-out Inv-loop μ-loop
 cast-out c = small-fits (c .before .before .before .pre .0)
-
-shr-out : tie.Need-shr-out Inv-loop μ-loop
-shr-out c = search needs
-
-mul-t6 : tie.Need-mul-t6 Inv-loop μ-loop
-mul-t6 c = search needs
-
-slice-set-from-out : tie.Need-slice-set-from-out Inv-loop μ-loop
-slice-set-from-out c = search needs
-
-add-i : tie.Need-add-i Inv-loop μ-loop
-add-i c = search needs
 
 loop-less : tie.Need-loop-less Inv-loop μ-loop
 loop-less c = simp length-set (omega arith)
@@ -48,9 +30,6 @@ loop-again : tie.Need-loop-again Inv-loop μ-loop
 loop-again c =
     let S = c .before .before .before in
     fill-turn _ _ _ (c .before .before .loop .inv) (search needs) (again (shift-is (S .args .shift) (at (S .args .line .now) (c .before .before .loop .i)) (record { sfits = c .x .given })) .eq)
-
-same-length : tie.Need-same-length Inv-loop μ-loop
-same-length c = search needs
 
 returns : tie.Need-returns Inv-loop μ-loop
 returns c = fill-ends _ _ (c .before .loop .inv) (search needs)
@@ -62,14 +41,14 @@ shifted-line-spec =
     Inv-loop
     μ-loop
     loop-holds
-    mul-x
-    shared-slice-copy-out-x
+    (λ c. search needs)
+    (λ c. search needs)
     cast-out
-    shr-out
-    mul-t6
-    slice-set-from-out
-    add-i
+    (λ c. search needs)
+    (λ c. search needs)
+    (λ c. search needs)
+    (λ c. search needs)
     loop-less
     loop-again
-    same-length
+    (λ c. search needs)
     returns)

@@ -47,12 +47,6 @@ dot-requires-2 c κs =
     let d = second (c .before .before .before) in
     lines (is-noise (S .pre .0) e (S .pre .2)) (is-noise (S .pre .1) d (S .pre .2)) (size n (λ i. noise (A .src0 .now) (A .den0 .now) (A .start + i * A .stride)) e ∙ sym (size n (λ i. noise (A .src1 .now) (A .den1 .now) (A .start + i * A .stride)) d))
 
-same-length : tie.Need-same-length
-same-length c = search needs
-
-same-length-2 : tie.Need-same-length-2
-same-length-2 c = search needs
-
 returns : tie.Need-returns
 returns c =
     let S = c .before .before .before .before .before .before .before .before .before .before .before .before .before .before in
@@ -71,6 +65,6 @@ row-pair-spec =
     noise-line-requires-2
     dot-requires
     dot-requires-2
-    same-length
-    same-length-2
+    (λ c. search needs)
+    (λ c. search needs)
     returns)

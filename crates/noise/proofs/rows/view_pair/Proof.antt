@@ -87,20 +87,11 @@ add-cross c = fits (crossed c)
 add-r : tie.Need-add-r Inv-loop μ-loop
 add-r c = record { fits = omega (arith, c .before .before .before .before .before .before .before .before .before .before .before .before .before .before .before .before .before .pre .0 .low) }
 
-loop-less : tie.Need-loop-less Inv-loop μ-loop
-loop-less c = search needs
-
 loop-again : tie.Need-loop-again Inv-loop μ-loop
 loop-again c =
     let H = c .before .before .before .before .before .before .before .before .before .before .before .before .loop in
     let kept = c .before .before .before .before .before .before .row-pair .kept .1 .1 .1 .1 .1 .1 in
     (omega arith, kept .0 ∙ H .inv .1, kept .1 .0 ∙ H .inv .2, again (squared (c .before .before)) .eq, again (crossed c) .eq)
-
-same-length : tie.Need-same-length Inv-loop μ-loop
-same-length c = search needs
-
-same-length-2 : tie.Need-same-length-2 Inv-loop μ-loop
-same-length-2 c = search needs
 
 returns : tie.Need-returns Inv-loop μ-loop
 returns c =
@@ -121,8 +112,8 @@ view-pair-spec =
     add-second
     add-cross
     add-r
-    loop-less
+    (λ c. search needs)
     loop-again
-    same-length
-    same-length-2
+    (λ c. search needs)
+    (λ c. search needs)
     returns)

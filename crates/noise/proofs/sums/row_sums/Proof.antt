@@ -33,12 +33,6 @@ shifted-energy-requires c κs =
     let d = c .before .before .dot in
     (is-noise (S .pre .0) e (S .pre .1), S .pre .4, S .pre .2 ∙ sym (size _ _ e), again (self (record { sfits = d .ok })) .eq ∙ d .ensures)
 
-same-length : tie.Need-same-length
-same-length c = search needs
-
-same-length-2 : tie.Need-same-length-2
-same-length-2 c = search needs
-
 returns : tie.Need-returns
 returns c =
     let S = c .before .before .before .before .before .before .before .before .before .before .before in
@@ -60,6 +54,6 @@ row-sums-spec =
     dot-requires
     lagged-dot-requires
     shifted-energy-requires
-    same-length
-    same-length-2
+    (λ c. search needs)
+    (λ c. search needs)
     returns)

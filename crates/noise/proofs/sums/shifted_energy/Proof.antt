@@ -14,16 +14,10 @@ returns c =
     let L = c .before .pre .0 in
     again (known (c .before .pre .3) (line-lt (lines L L refl) (lit≤ tt) _ (le-refl _))) .eq ∙ unshifted (c .before .args .line .now) (c .if1 .taken)
 
-shifted-line-requires : tie.Need-shifted-line-requires
-shifted-line-requires c κs = search needs
-
 dot-requires : tie.Need-dot-requires
 dot-requires c κs =
     let S = c .before .before .before .before .before in
     shifted-lines (S .pre .0) (S .args .shift) (S .pre .2) (c .before .before .shifted-line .ensures)
-
-same-length : tie.Need-same-length
-same-length c = search needs
 
 returns-2 : tie.Need-returns-2
 returns-2 c =
@@ -34,4 +28,4 @@ returns-2 c =
 
 pub shifted-energy-spec : {M : Type 1} → statement M
 shifted-energy-spec =
-    tie.close (tie.spec returns shifted-line-requires dot-requires same-length returns-2)
+    tie.close (tie.spec returns (λ c κs. search needs) dot-requires (λ c. search needs) returns-2)

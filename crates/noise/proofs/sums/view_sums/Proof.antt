@@ -120,9 +120,6 @@ add-lagged c = fits (onward c)
 add-r : tie.Need-add-r Inv-loop μ-loop
 add-r c = record { fits = omega (arith, c .before .before .before .before .before .before .before .before .before .before .before .before .before .before .before .before .before .pre .0 .low) }
 
-loop-less : tie.Need-loop-less Inv-loop μ-loop
-loop-less c = search needs
-
 loop-again : tie.Need-loop-again Inv-loop μ-loop
 loop-again c =
     let H = c .before .before .before .before .before .before .before .before .before .before .before .before .before .before .loop in
@@ -134,12 +131,6 @@ loop-again c =
       again (own (c .before .before)) .eq,
       again (onward c) .eq,
     )
-
-same-length : tie.Need-same-length Inv-loop μ-loop
-same-length c = search needs
-
-same-length-2 : tie.Need-same-length-2 Inv-loop μ-loop
-same-length-2 c = search needs
 
 returns : tie.Need-returns Inv-loop μ-loop
 returns c =
@@ -161,8 +152,8 @@ view-sums-spec =
     add-energy
     add-lagged
     add-r
-    loop-less
+    (λ c. search needs)
     loop-again
-    same-length
-    same-length-2
+    (λ c. search needs)
+    (λ c. search needs)
     returns)

@@ -54,23 +54,11 @@ add-z c = omega (arith, blocks-le (c .before .before .pre))
 mul-add-to : tie.Need-mul-add-to Inv-loop μ-loop
 mul-add-to c = omega (arith, in-sums (c .before .before))
 
-sub-add-to : tie.Need-sub-add-to Inv-loop μ-loop
-sub-add-to c = search needs
-
-part-add-to-start : tie.Need-part-add-to-start Inv-loop μ-loop
-part-add-to-start c = search needs
-
 part-add-to-end : tie.Need-part-add-to-end Inv-loop μ-loop
 part-add-to-end c = omega (arith, in-sums (c .before .before), c .before .before .before .loop .inv .1 .same)
 
 mul-add-to-2 : tie.Need-mul-add-to-2 Inv-loop μ-loop
 mul-add-to-2 c = omega (arith, in-tables (c .before .before .before))
-
-sub-add-to-2 : tie.Need-sub-add-to-2 Inv-loop μ-loop
-sub-add-to-2 c = search needs
-
-part-add-to-start-2 : tie.Need-part-add-to-start-2 Inv-loop μ-loop
-part-add-to-start-2 c = search needs
 
 part-add-to-end-2 : tie.Need-part-add-to-end-2 Inv-loop μ-loop
 part-add-to-end-2 c = omega (arith, in-tables (c .before .before .before))
@@ -80,9 +68,6 @@ add-to-requires c κs =
     let T = c .before .before .before .before in
     passing-addable _ _ _ _ _ (T .before .before .pre) (T .before .loop .z) (T .before .loop .inv .1) (T .loop-test .taken) (c .before .before .before .if1 .taken)
 
-loop-less : tie.Need-loop-less Inv-loop μ-loop
-loop-less c = search needs
-
 loop-again : tie.Need-loop-again Inv-loop μ-loop
 loop-again c =
     let T = c .before .before .before .before .before .before in (
@@ -91,20 +76,11 @@ loop-again c =
           (c .before .before .before .before .if2 .taken) (c .before .add-to .ensures),
     )
 
-loop-less-2 : tie.Need-loop-less-2 Inv-loop μ-loop
-loop-less-2 c = search needs
-
 loop-again-2 : tie.Need-loop-again-2 Inv-loop μ-loop
 loop-again-2 c = (omega arith, passing-by _ _ _ _ _ (c .before .before .before .before .pre) (c .before .before .before .loop .z) (c .before .before .before .loop .inv .1) (c .before .before .loop-test .taken) (λ x. passed-after _ _ _ x (c .before .if1 .taken) (c .if2 .left)))
 
-loop-less-3 : tie.Need-loop-less-3 Inv-loop μ-loop
-loop-less-3 c = search needs
-
 loop-again-3 : tie.Need-loop-again-3 Inv-loop μ-loop
 loop-again-3 c = (omega arith, passing-by _ _ _ _ _ (c .before .before .before .pre) (c .before .before .loop .z) (c .before .before .loop .inv .1) (c .before .loop-test .taken) (λ x. passed-before _ _ _ x (c .if1 .left)))
-
-same-length : tie.Need-same-length Inv-loop μ-loop
-same-length c = search needs
 
 returns : tie.Need-returns Inv-loop μ-loop
 returns c = passing-ends _ _ _ _ _ (c .before .before .pre) (c .before .loop .z) (c .before .loop .inv .1) (search needs)
@@ -126,19 +102,19 @@ add-row-spec =
     add-last
     add-z
     mul-add-to
-    sub-add-to
-    part-add-to-start
+    (λ c. search needs)
+    (λ c. search needs)
     part-add-to-end
     mul-add-to-2
-    sub-add-to-2
-    part-add-to-start-2
+    (λ c. search needs)
+    (λ c. search needs)
     part-add-to-end-2
     add-to-requires
-    loop-less
+    (λ c. search needs)
     loop-again
-    loop-less-2
+    (λ c. search needs)
     loop-again-2
-    loop-less-3
+    (λ c. search needs)
     loop-again-3
-    same-length
+    (λ c. search needs)
     returns)

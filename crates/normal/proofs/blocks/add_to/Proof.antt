@@ -23,18 +23,6 @@ abbrev μ-loop : tie.MeasureT-loop
 loop-holds : tie.Need-loop-holds Inv-loop μ-loop
 loop-holds c = adding-starts _ _
 
-mul-x : tie.Need-mul-x Inv-loop μ-loop
-mul-x c = search needs
-
-slice-copy-out-x : tie.Need-slice-copy-out-x Inv-loop μ-loop
-slice-copy-out-x c = search needs
-
-mul-y : tie.Need-mul-y Inv-loop μ-loop
-mul-y c = search needs
-
-shared-slice-copy-out-y : tie.Need-shared-slice-copy-out-y Inv-loop μ-loop
-shared-slice-copy-out-y c = search needs
-
 -- a turn's sum
 added : (c : tie.After-y Inv-loop μ-loop) → let A = c .before .before .before .before .args in
     let H = c .before .before .before .loop in
@@ -46,23 +34,11 @@ added c =
 add-sums : tie.Need-add-sums Inv-loop μ-loop
 add-sums c = fits (added c)
 
-mul-t6 : tie.Need-mul-t6 Inv-loop μ-loop
-mul-t6 c = search needs
-
-slice-set-from-sums : tie.Need-slice-set-from-sums Inv-loop μ-loop
-slice-set-from-sums c = search needs
-
-add-i : tie.Need-add-i Inv-loop μ-loop
-add-i c = search needs
-
 loop-less : tie.Need-loop-less Inv-loop μ-loop
 loop-less c = simp length-set (omega arith)
 
 loop-again : tie.Need-loop-again Inv-loop μ-loop
 loop-again c = adding-turn _ _ (c .before .before .before .loop .i) (c .before .before .before .loop .inv) _ (search needs) (again (added c) .eq)
-
-same-length : tie.Need-same-length Inv-loop μ-loop
-same-length c = search needs
 
 returns : tie.Need-returns Inv-loop μ-loop
 returns c = adding-ends _ _ (c .before .loop .i) (c .before .loop .inv) (search needs)
@@ -74,15 +50,15 @@ add-to-spec =
     Inv-loop
     μ-loop
     loop-holds
-    mul-x
-    slice-copy-out-x
-    mul-y
-    shared-slice-copy-out-y
+    (λ c. search needs)
+    (λ c. search needs)
+    (λ c. search needs)
+    (λ c. search needs)
     add-sums
-    mul-t6
-    slice-set-from-sums
-    add-i
+    (λ c. search needs)
+    (λ c. search needs)
+    (λ c. search needs)
     loop-less
     loop-again
-    same-length
+    (λ c. search needs)
     returns)

@@ -27,9 +27,6 @@ loop-holds c = square-starts _ _ (c .pre .2)
 loop2-holds : tie.Need-loop2-holds Inv-loop2 μ-loop2 Inv-loop μ-loop
 loop2-holds c = c .before .loop .inv
 
-entry-at-requires : tie.Need-entry-at-requires Inv-loop2 μ-loop2 Inv-loop μ-loop
-entry-at-requires c κs = search needs
-
 -- the place that a turn fills
 place : (c : tie.In-loop2 Inv-loop2 μ-loop2 Inv-loop μ-loop) → c .before .before .before .loop .i * c .before .before .before .before .args .order + c .before .loop2 .j < length (c .before .loop2 .matrix)
 place c = square-in _ _ (c .before .before .before .loop .i) (c .before .loop2 .j) (c .before .loop2 .inv) (c .before .before .loop-test .taken) (c .loop2-test .taken)
@@ -46,29 +43,14 @@ mul-sum-2 c = omega (arith, place (c .before))
 slice-set-from-sum : tie.Need-slice-set-from-sum Inv-loop2 μ-loop2 Inv-loop μ-loop
 slice-set-from-sum c = place (c .before)
 
-add-j : tie.Need-add-j Inv-loop2 μ-loop2 Inv-loop μ-loop
-add-j c = search needs
-
-loop2-less : tie.Need-loop2-less Inv-loop2 μ-loop2 Inv-loop μ-loop
-loop2-less c = search needs
-
 loop2-again : tie.Need-loop2-again Inv-loop2 μ-loop2 Inv-loop μ-loop
 loop2-again c =
     let C = c .before in
     square-turn _ _ (C .before .before .before .loop .i) (C .before .loop2 .j) (C .before .loop2 .inv) (C .before .before .loop-test .taken) (C .loop2-test .taken)
     _ (kept (record { sfits = c .entry-at .ok }) (c .entry-at .ensures))
 
-add-i : tie.Need-add-i Inv-loop2 μ-loop2 Inv-loop μ-loop
-add-i c = search needs
-
-loop-less : tie.Need-loop-less Inv-loop2 μ-loop2 Inv-loop μ-loop
-loop-less c = search needs
-
 loop-again : tie.Need-loop-again Inv-loop2 μ-loop2 Inv-loop μ-loop
 loop-again c = square-row _ _ (c .before .before .before .loop .i) (c .before .loop2 .j) (c .before .loop2 .inv) (search needs) (search needs)
-
-same-length : tie.Need-same-length Inv-loop2 μ-loop2 Inv-loop μ-loop
-same-length c = search needs
 
 returns : tie.Need-returns Inv-loop2 μ-loop2 Inv-loop μ-loop
 returns c = square-ends _ _ (c .before .loop .i) (c .before .loop .inv) (search needs)
@@ -83,16 +65,16 @@ copy-entries-spec =
     μ-loop
     loop-holds
     loop2-holds
-    entry-at-requires
+    (λ c κs. search needs)
     mul-sum
     add-sum
     mul-sum-2
     slice-set-from-sum
-    add-j
-    loop2-less
+    (λ c. search needs)
+    (λ c. search needs)
     loop2-again
-    add-i
-    loop-less
+    (λ c. search needs)
+    (λ c. search needs)
     loop-again
-    same-length
+    (λ c. search needs)
     returns)

@@ -7,17 +7,11 @@ use borrow.Author.Needs.{needs}
 use Rattle.normal.proofs.plane.entry_at.Statement.{statement}
 use Rattle.normal.proofs.plane.entry_at.Tie as tie
 
-ordered-entry-requires : tie.Need-ordered-entry-requires
-ordered-entry-requires c κs = search needs
-
 returns : tie.Need-returns
 returns c =
     let A = c .before .before .args in
     let l = c .before .if1 .taken in
     kept (record { sfits = c .ordered-entry .ok }) (c .ordered-entry .ensures ∙ (λ i. pairAt (A .sums .now) (A .starts) (A .side) (sym (min-eq-left l) i) (sym (max-eq-right l) i)))
-
-ordered-entry-requires-2 : tie.Need-ordered-entry-requires-2
-ordered-entry-requires-2 c κs = search needs
 
 returns-2 : tie.Need-returns-2
 returns-2 c =
@@ -27,4 +21,4 @@ returns-2 c =
 
 pub entry-at-spec : {M : Type 1} → statement M
 entry-at-spec =
-    tie.close (tie.spec ordered-entry-requires returns ordered-entry-requires-2 returns-2)
+    tie.close (tie.spec (λ c κs. search needs) returns (λ c κs. search needs) returns-2)

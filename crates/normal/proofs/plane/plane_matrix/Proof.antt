@@ -11,24 +11,6 @@ use borrow.Author.Needs.{needs}
 use Rattle.normal.proofs.plane.plane_matrix.Statement.{statement}
 use Rattle.normal.proofs.plane.plane_matrix.Tie as tie
 
-add-starts : tie.Need-add-starts
-add-starts c = search needs
-
-mul-side : tie.Need-mul-side
-mul-side c = search needs
-
-add-side : tie.Need-add-side
-add-side c = search needs
-
-mul-n : tie.Need-mul-n
-mul-n c = search needs
-
-sub-n : tie.Need-sub-n
-sub-n c = search needs
-
-sub-pass-rows : tie.Need-sub-pass-rows
-sub-pass-rows c = search needs
-
 pass-rows-requires : tie.Need-pass-rows-requires
 pass-rows-requires c κs =
     let S = c .before .before .before .before .before .before in
@@ -55,21 +37,6 @@ add-order-2 c = omega (arith, neighbours-le (c .before .before .before .before .
 copy-entries-requires : tie.Need-copy-entries-requires
 copy-entries-requires c κs = let S = c .before .before .before .before .before .before .before .before .before .before .before .before .before in (factors-le (S .args .lag), c .before .before .before .before .before .before .pass-rows .ensures .size, S .pre .6)
 
-same-length : tie.Need-same-length
-same-length c = search needs
-
-same-length-2 : tie.Need-same-length-2
-same-length-2 c = search needs
-
-same-length-3 : tie.Need-same-length-3
-same-length-3 c = search needs
-
-same-length-4 : tie.Need-same-length-4
-same-length-4 c = search needs
-
-same-length-5 : tie.Need-same-length-5
-same-length-5 c = search needs
-
 returns : tie.Need-returns
 returns c =
     let A = c .before .before .before .before .before .before .before .before .before .before .before .before .before .before .before .args in
@@ -79,21 +46,21 @@ pub plane-matrix-spec : {M : Type 1} → statement M
 plane-matrix-spec =
     tie.close
     (tie.spec
-    add-starts
-    mul-side
-    add-side
-    mul-n
-    sub-n
-    sub-pass-rows
+    (λ c. search needs)
+    (λ c. search needs)
+    (λ c. search needs)
+    (λ c. search needs)
+    (λ c. search needs)
+    (λ c. search needs)
     pass-rows-requires
     mul-order
     add-order
     mul-order-2
     add-order-2
     copy-entries-requires
-    same-length
-    same-length-2
-    same-length-3
-    same-length-4
-    same-length-5
+    (λ c. search needs)
+    (λ c. search needs)
+    (λ c. search needs)
+    (λ c. search needs)
+    (λ c. search needs)
     returns)

@@ -7,50 +7,8 @@ use borrow.Author.Needs.{needs}
 use Rattle.normal.proofs.plane.plane_sums.Statement.{statement}
 use Rattle.normal.proofs.plane.plane_sums.Tie as tie
 
-blank-line-requires : tie.Need-blank-line-requires
-blank-line-requires c κs = search needs
-
-blank-line-requires-2 : tie.Need-blank-line-requires-2
-blank-line-requires-2 c κs = search needs
-
-blank-tables-requires : tie.Need-blank-tables-requires
-blank-tables-requires c κs = search needs
-
-blank-sums-requires : tie.Need-blank-sums-requires
-blank-sums-requires c κs = search needs
-
-add-starts : tie.Need-add-starts
-add-starts c = search needs
-
-mul-side : tie.Need-mul-side
-mul-side c = search needs
-
-add-side : tie.Need-add-side
-add-side c = search needs
-
-mul-row : tie.Need-mul-row
-mul-row c = search needs
-
-mul-row-2 : tie.Need-mul-row-2
-mul-row-2 c = search needs
-
-mul-all : tie.Need-mul-all
-mul-all c = search needs
-
-mul-all-2 : tie.Need-mul-all-2
-mul-all-2 c = search needs
-
-mul-all-3 : tie.Need-mul-all-3
-mul-all-3 c = search needs
-
-array-borrow-prefix-up : tie.Need-array-borrow-prefix-up
-array-borrow-prefix-up c = search needs
-
 slice-aggregate-plane-matrix : tie.Need-slice-aggregate-plane-matrix
 slice-aggregate-plane-matrix c = sym (length-take-le (c .before .before .before .before .before .before .before .args .w) (c .before .before .before .before .blank-line .result) (search needs))
-
-array-borrow-prefix-lo : tie.Need-array-borrow-prefix-lo
-array-borrow-prefix-lo c = search needs
 
 slice-aggregate-plane-matrix-2 : tie.Need-slice-aggregate-plane-matrix-2
 slice-aggregate-plane-matrix-2 c = sym (length-take-le (c .before .before .before .before .before .before .before .before .args .w) (c .before .before .before .before .blank-line2 .result) (search needs))
@@ -79,9 +37,6 @@ plane-matrix-requires c κs =
       S .pre .2,
     )
 
-same-length : tie.Need-same-length
-same-length c = search needs
-
 returns : tie.Need-returns
 returns c = c .before .before .before .before .before .plane-matrix .ensures
 
@@ -89,26 +44,26 @@ pub plane-sums-spec : {M : Type 1} → statement M
 plane-sums-spec =
     tie.close
     (tie.spec
-    blank-line-requires
-    blank-line-requires-2
-    blank-tables-requires
-    blank-sums-requires
-    add-starts
-    mul-side
-    add-side
-    mul-row
-    mul-row-2
-    mul-all
-    mul-all-2
-    mul-all-3
-    array-borrow-prefix-up
+    (λ c κs. search needs)
+    (λ c κs. search needs)
+    (λ c κs. search needs)
+    (λ c κs. search needs)
+    (λ c. search needs)
+    (λ c. search needs)
+    (λ c. search needs)
+    (λ c. search needs)
+    (λ c. search needs)
+    (λ c. search needs)
+    (λ c. search needs)
+    (λ c. search needs)
+    (λ c. search needs)
     slice-aggregate-plane-matrix
-    array-borrow-prefix-lo
+    (λ c. search needs)
     slice-aggregate-plane-matrix-2
     array-borrow-prefix-tables
     slice-aggregate-plane-matrix-3
     array-borrow-prefix-sums
     slice-aggregate-plane-matrix-4
     plane-matrix-requires
-    same-length
+    (λ c. search needs)
     returns)

@@ -4,21 +4,12 @@ use borrow.Author.Needs.{needs}
 use Rattle.normal.proofs.rows.grid_line.Statement.{statement}
 use Rattle.normal.proofs.rows.grid_line.Tie as tie
 
-mul-noise-line : tie.Need-mul-noise-line
-mul-noise-line c = search needs
-
-add-noise-line : tie.Need-add-noise-line
-add-noise-line c = search needs
-
 noise-line-requires : tie.Need-noise-line-requires
 noise-line-requires c κs = looser (c .before .before .before .before .before .pre)
-
-same-length : tie.Need-same-length
-same-length c = search needs
 
 returns : tie.Need-returns
 returns c = search needs
 
 pub grid-line-spec : {M : Type 1} → statement M
 grid-line-spec =
-    tie.close (tie.spec mul-noise-line add-noise-line noise-line-requires same-length returns)
+    tie.close (tie.spec (λ c. search needs) (λ c. search needs) noise-line-requires (λ c. search needs) returns)

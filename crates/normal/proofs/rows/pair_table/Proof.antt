@@ -16,9 +16,6 @@ line-table-requires c κs =
     let S = c .before .before .before .before in
     (rows-strip (S .pre .0) (S .args .r) (S .args .r) (omega arith) (omega arith) (S .pre .2) (S .pre .2), (λ e. refl), S .pre .3)
 
-sub-grid-line : tie.Need-sub-grid-line
-sub-grid-line c = search needs
-
 grid-line-requires : tie.Need-grid-line-requires
 grid-line-requires c κs = let S = c .before .before .before .before in S .pre .0 .rows (S .args .r - S .args .d) (omega arith)
 
@@ -26,9 +23,6 @@ line-table-requires-2 : tie.Need-line-table-requires-2
 line-table-requires-2 c κs =
     let S = c .before .before .before .before .before .before .before .before in
     (rows-strip (S .pre .0) (S .args .r - S .args .d) (S .args .r) (omega arith) (omega arith) (c .before .before .before .grid-line .ensures) (S .pre .2), (λ e. absurd (false≢true e)), S .pre .3)
-
-same-length : tie.Need-same-length
-same-length c = search needs
 
 returns : tie.Need-returns
 returns c =
@@ -39,12 +33,6 @@ returns c =
     c .before .line-table .ensures
     ∙ rows-table (S .pre .0) (A .r) (A .r) (omega arith) (omega arith) (S .pre .2) (S .pre .2)
     ∙ ap (λ (u : ℕ). square (A .side) (startSum (f u) (f (A .r)) (A .n))) same
-
-same-length-2 : tie.Need-same-length-2
-same-length-2 c = search needs
-
-same-length-3 : tie.Need-same-length-3
-same-length-3 c = search needs
 
 returns-2 : tie.Need-returns-2
 returns-2 c =
@@ -58,11 +46,11 @@ pair-table-spec =
     tie.close
     (tie.spec
     line-table-requires
-    sub-grid-line
+    (λ c. search needs)
     grid-line-requires
     line-table-requires-2
-    same-length
+    (λ c. search needs)
     returns
-    same-length-2
-    same-length-3
+    (λ c. search needs)
+    (λ c. search needs)
     returns-2)

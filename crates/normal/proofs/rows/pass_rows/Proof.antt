@@ -39,9 +39,6 @@ add-row-requires c κs = held-room (c .before .before .before .before .before .b
 add-r : tie.Need-add-r Inv-loop μ-loop
 add-r c = omega (arith, c .before .before .before .before .before .before .before .before .before .before .before .before .before .before .before .pre .0 .low)
 
-loop-less : tie.Need-loop-less Inv-loop μ-loop
-loop-less c = search needs
-
 loop-again : tie.Need-loop-again Inv-loop μ-loop
 loop-again c =
     let H = c .before .before .before .before .before .before .before .before .before .before .before .before .loop in
@@ -53,15 +50,6 @@ loop-again c =
       omega arith,
       held-turn _ _ _ _ _ (H .r) (H .inv .5) (c .before .before .before .before .before .before .before .row-tables .ensures) (c .before .add-row .ensures),
     )
-
-same-length : tie.Need-same-length Inv-loop μ-loop
-same-length c = search needs
-
-same-length-2 : tie.Need-same-length-2 Inv-loop μ-loop
-same-length-2 c = search needs
-
-same-length-3 : tie.Need-same-length-3 Inv-loop μ-loop
-same-length-3 c = search needs
 
 same-length-4 : tie.Need-same-length-4 Inv-loop μ-loop
 same-length-4 c = c .before .loop .inv .5 .size ∙ sym (c .before .before .before .before .pre .4 .size)
@@ -80,10 +68,10 @@ pass-rows-spec =
     row-tables-requires
     add-row-requires
     add-r
-    loop-less
+    (λ c. search needs)
     loop-again
-    same-length
-    same-length-2
-    same-length-3
+    (λ c. search needs)
+    (λ c. search needs)
+    (λ c. search needs)
     same-length-4
     returns)

@@ -23,12 +23,6 @@ abbrev μ-loop : tie.MeasureT-loop
 mul-k : tie.Need-mul-k Inv-loop μ-loop
 mul-k c = omega (arith, side-few (c .before .before .pre .0))
 
-add-fewer : tie.Need-add-fewer Inv-loop μ-loop
-add-fewer c = search needs
-
-fewer-requires : tie.Need-fewer-requires Inv-loop μ-loop
-fewer-requires c κs = search needs
-
 grid-line-requires : tie.Need-grid-line-requires Inv-loop μ-loop
 grid-line-requires c κs =
     let S = c .before .before .before .before in
@@ -59,12 +53,6 @@ add-to c = omega (arith, in-tables c)
 mul-pair-table : tie.Need-mul-pair-table Inv-loop μ-loop
 mul-pair-table c = omega (arith, in-tables (c .before .before))
 
-sub-pair-table : tie.Need-sub-pair-table Inv-loop μ-loop
-sub-pair-table c = search needs
-
-part-pair-table-start : tie.Need-part-pair-table-start Inv-loop μ-loop
-part-pair-table-start c = search needs
-
 part-pair-table-end : tie.Need-part-pair-table-end Inv-loop μ-loop
 part-pair-table-end c = omega (arith, in-tables (c .before .before))
 
@@ -83,9 +71,6 @@ pair-table-requires c κs =
 add-d : tie.Need-add-d Inv-loop μ-loop
 add-d c = omega (arith, filling-row _ _ _ _ _ (c .before .before .before .before .before .before .before .loop .inv .4) (rw (c .before .before .before .before .before .before .before .loop .inv .1) at (c .before .before .before .before .before .before .loop-test .taken)), c .before .before .before .before .before .before .before .before .before .before .before .before .before .before .pre .0 .low)
 
-loop-less : tie.Need-loop-less Inv-loop μ-loop
-loop-less c = search needs
-
 loop-again : tie.Need-loop-again Inv-loop μ-loop
 loop-again c =
     let H = c .before .before .before .before .before .before .before .loop in (
@@ -95,15 +80,6 @@ loop-again c =
       H .inv .3,
       filling-turn _ _ _ _ _ (H .inv .4) (rw (H .inv .1) at (c .before .before .before .before .before .before .loop-test .taken)) (c .before .before .pair-table .ensures),
     )
-
-same-length : tie.Need-same-length Inv-loop μ-loop
-same-length c = search needs
-
-same-length-2 : tie.Need-same-length-2 Inv-loop μ-loop
-same-length-2 c = search needs
-
-same-length-3 : tie.Need-same-length-3 Inv-loop μ-loop
-same-length-3 c = search needs
 
 returns : tie.Need-returns Inv-loop μ-loop
 returns c = filling-ends _ _ _ _ _ (c .before .loop .inv .4) (omega arith)
@@ -115,21 +91,21 @@ row-tables-spec =
     Inv-loop
     μ-loop
     mul-k
-    add-fewer
-    fewer-requires
+    (λ c. search needs)
+    (λ c κs. search needs)
     grid-line-requires
     loop-holds
     mul-from
     add-to
     mul-pair-table
-    sub-pair-table
-    part-pair-table-start
+    (λ c. search needs)
+    (λ c. search needs)
     part-pair-table-end
     pair-table-requires
     add-d
-    loop-less
+    (λ c. search needs)
     loop-again
-    same-length
-    same-length-2
-    same-length-3
+    (λ c. search needs)
+    (λ c. search needs)
+    (λ c. search needs)
     returns)

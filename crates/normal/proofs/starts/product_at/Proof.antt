@@ -8,20 +8,8 @@ use borrow.Author.Needs.{needs}
 use Rattle.normal.proofs.starts.product_at.Statement.{statement}
 use Rattle.normal.proofs.starts.product_at.Tie as tie
 
-mul-x : tie.Need-mul-x
-mul-x c = search needs
-
-shared-slice-copy-out-x : tie.Need-shared-slice-copy-out-x
-shared-slice-copy-out-x c = search needs
-
 cast-x : tie.Need-cast-x
 cast-x c = let A = c .before .args in fits (wide64 (at (A .up .now) (A .a)) (record { sfits = c .x .given }))
-
-mul-y : tie.Need-mul-y
-mul-y c = search needs
-
-shared-slice-copy-out-y : tie.Need-shared-slice-copy-out-y
-shared-slice-copy-out-y c = search needs
 
 cast-y : tie.Need-cast-y
 cast-y c = let A = c .before .before .args in fits (wide64 (at (A .lo .now) (A .b)) (record { sfits = c .y .given }))
@@ -41,11 +29,11 @@ pub product-at-spec : {M : Type 1} → statement M
 product-at-spec =
     tie.close
     (tie.spec
-    mul-x
-    shared-slice-copy-out-x
+    (λ c. search needs)
+    (λ c. search needs)
     cast-x
-    mul-y
-    shared-slice-copy-out-y
+    (λ c. search needs)
+    (λ c. search needs)
     cast-y
     mul-result
     returns)

@@ -12,18 +12,6 @@ use borrow.Author.Needs.{needs}
 use Rattle.normal.proofs.starts.slid_sum.Statement.{statement}
 use Rattle.normal.proofs.starts.slid_sum.Tie as tie
 
-product-at-requires : tie.Need-product-at-requires
-product-at-requires c κs = search needs
-
-add-product-at : tie.Need-add-product-at
-add-product-at c = search needs
-
-add-product-at-2 : tie.Need-add-product-at-2
-add-product-at-2 c = search needs
-
-product-at-requires-2 : tie.Need-product-at-requires-2
-product-at-requires-2 c κs = search needs
-
 before-is : (c : tie.After-product-at2) → let A = c .before .before .args in toZ w64 (ofZ w64 (A .before)) ≡ startSum (at (A .up .now)) (at (A .lo .now)) (A .n) (A .a) (A .b)
 before-is c = kept (c .before .before .fits .before) (c .before .before .pre .1)
 
@@ -46,10 +34,10 @@ pub slid-sum-spec : {M : Type 1} → statement M
 slid-sum-spec =
     tie.close
     (tie.spec
-    product-at-requires
-    add-product-at
-    add-product-at-2
-    product-at-requires-2
+    (λ c κs. search needs)
+    (λ c. search needs)
+    (λ c. search needs)
+    (λ c κs. search needs)
     sub-result
     add-result
     returns)

@@ -5,21 +5,6 @@ use borrow.Author.Needs.{needs}
 use Rattle.normal.proofs.starts.square_sum.Statement.{statement}
 use Rattle.normal.proofs.starts.square_sum.Tie as tie
 
-add-end : tie.Need-add-end
-add-end c = search needs
-
-mul-part : tie.Need-mul-part
-mul-part c = search needs
-
-sub-part : tie.Need-sub-part
-sub-part c = search needs
-
-part-part-start : tie.Need-part-part-start
-part-part-start c = search needs
-
-part-part-end : tie.Need-part-part-end
-part-part-end c = search needs
-
 dot-wide-requires : tie.Need-dot-wide-requires
 dot-wide-requires c κs = let S = c .before in own-lines (S .args .line .now) (S .args .n) (S .args .a) (S .pre .0) (S .pre .1) (S .pre .2)
 
@@ -29,4 +14,4 @@ returns c = let S = c .before .before in kept (record { sfits = c .dot-wide .ok 
 pub square-sum-spec : {M : Type 1} → statement M
 square-sum-spec =
     tie.close
-    (tie.spec add-end mul-part sub-part part-part-start part-part-end dot-wide-requires returns)
+    (tie.spec (λ c. search needs) (λ c. search needs) (λ c. search needs) (λ c. search needs) (λ c. search needs) dot-wide-requires returns)

@@ -58,29 +58,14 @@ mul-sum-2 c = omega (arith, place (c .before .before))
 slice-set-from-sum : tie.Need-slice-set-from-sum Inv-loop2 μ-loop2 Inv-loop μ-loop
 slice-set-from-sum c = place (c .before .before)
 
-add-b : tie.Need-add-b Inv-loop2 μ-loop2 Inv-loop μ-loop
-add-b c = search needs
-
-loop2-less : tie.Need-loop2-less Inv-loop2 μ-loop2 Inv-loop μ-loop
-loop2-less c = search needs
-
 loop2-again : tie.Need-loop2-again Inv-loop2 μ-loop2 Inv-loop μ-loop
 loop2-again c =
     let C = c .before .before in
     square-turn _ _ (C .before .before .before .loop .a) (C .before .loop2 .b) (C .before .loop2 .inv) (C .before .before .loop-test .taken) (C .loop2-test .taken)
     _ (kept (record { sfits = c .next-sum .ok }) (c .next-sum .ensures))
 
-add-a : tie.Need-add-a Inv-loop2 μ-loop2 Inv-loop μ-loop
-add-a c = search needs
-
-loop-less : tie.Need-loop-less Inv-loop2 μ-loop2 Inv-loop μ-loop
-loop-less c = search needs
-
 loop-again : tie.Need-loop-again Inv-loop2 μ-loop2 Inv-loop μ-loop
 loop-again c = square-row _ _ (c .before .before .before .loop .a) (c .before .loop2 .b) (c .before .loop2 .inv) (search needs) (search needs)
-
-same-length : tie.Need-same-length Inv-loop2 μ-loop2 Inv-loop μ-loop
-same-length c = search needs
 
 returns : tie.Need-returns Inv-loop2 μ-loop2 Inv-loop μ-loop
 returns c = square-ends _ _ (c .before .loop .a) (c .before .loop .inv) (search needs)
@@ -100,11 +85,11 @@ line-table-spec =
     add-sum
     mul-sum-2
     slice-set-from-sum
-    add-b
-    loop2-less
+    (λ c. search needs)
+    (λ c. search needs)
     loop2-again
-    add-a
-    loop-less
+    (λ c. search needs)
+    (λ c. search needs)
     loop-again
-    same-length
+    (λ c. search needs)
     returns)

@@ -14,9 +14,6 @@ use Rattle.normal.proofs.table.next_sum.Tie as tie
 start-sum-requires : tie.Need-start-sum-requires
 start-sum-requires c κs = let S = c .before in S .pre .strip (S .args .a) (S .args .b) (S .pre .up-start) (S .pre .lo-start)
 
-returns : tie.Need-returns
-returns c = search needs
-
 mirrored : (c : tie.Then3) → let A = c .before .before .before .args in A .a < length (A .table .now)
 mirrored c =
     let S = c .before .before .before in
@@ -39,12 +36,6 @@ start-sum-requires-2 c κs =
     let S = c .before .before .before in
     S .pre .strip (S .args .a) (S .args .b) (S .pre .up-start) (S .pre .lo-start)
 
-returns-3 : tie.Need-returns-3
-returns-3 c = search needs
-
-sub-before : tie.Need-sub-before
-sub-before c = search needs
-
 earlier : (c : tie.Else2) → let A = c .before .before .args in (A .a - 1) * A .side + (A .b - 1) < length (A .table .now)
 earlier c =
     let S = c .before .before in
@@ -52,9 +43,6 @@ earlier c =
 
 mul-before : tie.Need-mul-before
 mul-before c = omega (arith, earlier c)
-
-sub-before-2 : tie.Need-sub-before-2
-sub-before-2 c = search needs
 
 add-before : tie.Need-add-before
 add-before c = omega (arith, earlier c)
@@ -64,12 +52,6 @@ mul-before-2 c = omega (arith, earlier c)
 
 shared-slice-copy-out-before : tie.Need-shared-slice-copy-out-before
 shared-slice-copy-out-before c = earlier c
-
-sub-slid-sum : tie.Need-sub-slid-sum
-sub-slid-sum c = search needs
-
-sub-slid-sum-2 : tie.Need-sub-slid-sum-2
-sub-slid-sum-2 c = search needs
 
 slid-sum-requires : tie.Need-slid-sum-requires
 slid-sum-requires c κs =
@@ -92,19 +74,19 @@ next-sum-spec =
     tie.close
     (tie.spec
     start-sum-requires
-    returns
+    (λ c. search needs)
     mul-result
     shared-slice-copy-out-result
     returns-2
     start-sum-requires-2
-    returns-3
-    sub-before
+    (λ c. search needs)
+    (λ c. search needs)
     mul-before
-    sub-before-2
+    (λ c. search needs)
     add-before
     mul-before-2
     shared-slice-copy-out-before
-    sub-slid-sum
-    sub-slid-sum-2
+    (λ c. search needs)
+    (λ c. search needs)
     slid-sum-requires
     returns-4)

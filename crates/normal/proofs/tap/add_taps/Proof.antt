@@ -23,12 +23,6 @@ abbrev μ-loop : tie.MeasureT-loop
 loop-holds : tie.Need-loop-holds Inv-loop μ-loop
 loop-holds c = adding-starts _ _
 
-mul-x : tie.Need-mul-x Inv-loop μ-loop
-mul-x c = search needs
-
-slice-copy-out-x : tie.Need-slice-copy-out-x Inv-loop μ-loop
-slice-copy-out-x c = search needs
-
 start-sum-requires : tie.Need-start-sum-requires Inv-loop μ-loop
 start-sum-requires c κs = c .before .before .before .pre .pair (c .before .before .loop .c) (search needs)
 
@@ -43,23 +37,11 @@ added c =
 add-taps : tie.Need-add-taps Inv-loop μ-loop
 add-taps c = fits (added c)
 
-mul-t9 : tie.Need-mul-t9 Inv-loop μ-loop
-mul-t9 c = search needs
-
-slice-set-from-taps : tie.Need-slice-set-from-taps Inv-loop μ-loop
-slice-set-from-taps c = search needs
-
-add-c : tie.Need-add-c Inv-loop μ-loop
-add-c c = search needs
-
 loop-less : tie.Need-loop-less Inv-loop μ-loop
 loop-less c = simp length-set (omega arith)
 
 loop-again : tie.Need-loop-again Inv-loop μ-loop
 loop-again c = adding-turn _ _ (c .before .before .before .loop .c) (c .before .before .before .loop .inv) _ (search needs) (again (added c) .eq)
-
-same-length : tie.Need-same-length Inv-loop μ-loop
-same-length c = search needs
 
 returns : tie.Need-returns Inv-loop μ-loop
 returns c = adding-ends _ _ (c .before .loop .c) (c .before .loop .inv) (search needs)
@@ -71,14 +53,14 @@ add-taps-spec =
     Inv-loop
     μ-loop
     loop-holds
-    mul-x
-    slice-copy-out-x
+    (λ c. search needs)
+    (λ c. search needs)
     start-sum-requires
     add-taps
-    mul-t9
-    slice-set-from-taps
-    add-c
+    (λ c. search needs)
+    (λ c. search needs)
+    (λ c. search needs)
     loop-less
     loop-again
-    same-length
+    (λ c. search needs)
     returns)

@@ -35,12 +35,6 @@ square-sum-requires c κs =
       averages-small _ (S .pre .0) (S .args .r) (next (S .args .r)) (filled (c .before .before .before)),
     )
 
-same-length : tie.Need-same-length
-same-length c = search needs
-
-same-length-2 : tie.Need-same-length-2
-same-length-2 c = search needs
-
 returns : tie.Need-returns
 returns c =
     let S = c .before .before .before .before .before .before .before .before .before in (
@@ -54,6 +48,6 @@ average-squares-spec =
     (tie.spec
     average-line-requires
     square-sum-requires
-    same-length
-    same-length-2
+    (λ c. search needs)
+    (λ c. search needs)
     returns)

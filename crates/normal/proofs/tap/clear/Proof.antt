@@ -19,23 +19,11 @@ abbrev μ-loop : tie.MeasureT-loop
 loop-holds : tie.Need-loop-holds Inv-loop μ-loop
 loop-holds c = fill-starts _ _
 
-mul-sums : tie.Need-mul-sums Inv-loop μ-loop
-mul-sums c = search needs
-
-slice-set-of-sums : tie.Need-slice-set-of-sums Inv-loop μ-loop
-slice-set-of-sums c = search needs
-
-add-i : tie.Need-add-i Inv-loop μ-loop
-add-i c = search needs
-
 loop-less : tie.Need-loop-less Inv-loop μ-loop
 loop-less c = simp length-set (omega arith)
 
 loop-again : tie.Need-loop-again Inv-loop μ-loop
 loop-again c = fill-turn _ _ _ (c .before .loop .inv) (search needs) refl
-
-same-length : tie.Need-same-length Inv-loop μ-loop
-same-length c = search needs
 
 returns : tie.Need-returns Inv-loop μ-loop
 returns c = zeros-table _ (fill-ends _ _ (c .before .loop .inv) (search needs))
@@ -47,10 +35,10 @@ clear-spec =
     Inv-loop
     μ-loop
     loop-holds
-    mul-sums
-    slice-set-of-sums
-    add-i
+    (λ c. search needs)
+    (λ c. search needs)
+    (λ c. search needs)
     loop-less
     loop-again
-    same-length
+    (λ c. search needs)
     returns)

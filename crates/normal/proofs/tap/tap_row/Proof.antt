@@ -23,18 +23,6 @@ Inv-loop src den grid w y lag averages line₀ taps₀ side n count u₀ line ta
 abbrev μ-loop : tie.MeasureT-loop
 μ-loop src den grid w y lag averages line₀ taps₀ side n count u₀ line taps u = lag + 1 - u
 
-mul-side : tie.Need-mul-side Inv-loop μ-loop
-mul-side c = search needs
-
-add-side : tie.Need-add-side Inv-loop μ-loop
-add-side c = search needs
-
-mul-n : tie.Need-mul-n Inv-loop μ-loop
-mul-n c = search needs
-
-sub-n : tie.Need-sub-n Inv-loop μ-loop
-sub-n c = search needs
-
 loop-holds : tie.Need-loop-holds Inv-loop μ-loop
 loop-holds c = (refl, refl, refl, c .before .before .pre .1, omega arith, taps-start (c .before .before .pre .0))
 
@@ -76,9 +64,6 @@ mul-first c = few (le-trans (begins c) (taps-few (c .before .before .before .bef
 sub-fewer : tie.Need-sub-fewer Inv-loop μ-loop
 sub-fewer c = begins c
 
-fewer-requires : tie.Need-fewer-requires Inv-loop μ-loop
-fewer-requires c κs = search needs
-
 add-end : tie.Need-add-end Inv-loop μ-loop
 add-end c = few (le-trans (ends c) (taps-few (c .before .before .before .before .before)))
 
@@ -94,12 +79,6 @@ grid-line-requires c κs =
 
 mul-add-taps : tie.Need-mul-add-taps Inv-loop μ-loop
 mul-add-taps c = few-bytes (le-trans (begins (c .before .before .before .before .before)) (taps-few (c .before .before .before .before .before .before .before .before .before)))
-
-sub-add-taps : tie.Need-sub-add-taps Inv-loop μ-loop
-sub-add-taps c = search needs
-
-part-add-taps-start : tie.Need-part-add-taps-start Inv-loop μ-loop
-part-add-taps-start c = search needs
 
 part-add-taps-end : tie.Need-part-add-taps-end Inv-loop μ-loop
 part-add-taps-end c = le-trans (ends (c .before .before .before .before)) (le-of-eq (sym (c .before .before .before .before .before .before .loop .inv .5 .same)))
@@ -128,12 +107,6 @@ loop-again c =
       taps-turn (S .pre .0) (H .u) (c .before .before .before .before .before .before .before .fewer .result) (c .before .before .before .before .before .before .before .before .loop-test .taken) (c .before .before .before .before .before .before .before .fewer .ensures) (filled (c .before .before .before .before .before)) (H .inv .5) (c .before .add-taps .ensures),
     )
 
-same-length : tie.Need-same-length Inv-loop μ-loop
-same-length c = search needs
-
-same-length-2 : tie.Need-same-length-2 Inv-loop μ-loop
-same-length-2 c = search needs
-
 returns : tie.Need-returns Inv-loop μ-loop
 returns c = taps-end (c .before .before .before .before .pre .0) (c .before .loop .u) (c .loop-test .left) (c .before .loop .inv .5)
 
@@ -143,25 +116,25 @@ tap-row-spec =
     (tie.spec
     Inv-loop
     μ-loop
-    mul-side
-    add-side
-    mul-n
-    sub-n
+    (λ c. search needs)
+    (λ c. search needs)
+    (λ c. search needs)
+    (λ c. search needs)
     loop-holds
     mul-first
     sub-fewer
-    fewer-requires
+    (λ c κs. search needs)
     add-end
     add-grid-line
     grid-line-requires
     mul-add-taps
-    sub-add-taps
-    part-add-taps-start
+    (λ c. search needs)
+    (λ c. search needs)
     part-add-taps-end
     add-taps-requires
     add-u
     loop-less
     loop-again
-    same-length
-    same-length-2
+    (λ c. search needs)
+    (λ c. search needs)
     returns)

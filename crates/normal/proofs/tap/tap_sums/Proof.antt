@@ -7,21 +7,6 @@ use borrow.Author.Needs.{needs}
 use Rattle.normal.proofs.tap.tap_sums.Statement.{statement}
 use Rattle.normal.proofs.tap.tap_sums.Tie as tie
 
-blank-line-requires : tie.Need-blank-line-requires
-blank-line-requires c κs = search needs
-
-blank-line-requires-2 : tie.Need-blank-line-requires-2
-blank-line-requires-2 c κs = search needs
-
-blank-line-requires-3 : tie.Need-blank-line-requires-3
-blank-line-requires-3 c κs = search needs
-
-clear-requires : tie.Need-clear-requires
-clear-requires c κs = search needs
-
-clear-requires-2 : tie.Need-clear-requires-2
-clear-requires-2 c κs = search needs
-
 array-borrow-prefix-sums : tie.Need-array-borrow-prefix-sums
 array-borrow-prefix-sums c = search needs
 
@@ -51,12 +36,6 @@ tap-rows-requires c κs =
       subst (λ (m : ℕ). Zeros m (c .before .before .before .before .before .before .clear2 .last .0)) (S .pre .2) (c .before .before .before .before .before .before .clear2 .ensures),
     )
 
-same-length : tie.Need-same-length
-same-length c = search needs
-
-same-length-2 : tie.Need-same-length-2
-same-length-2 c = search needs
-
 returns : tie.Need-returns
 returns c = search needs
 
@@ -64,11 +43,11 @@ pub tap-sums-spec : {M : Type 1} → statement M
 tap-sums-spec =
     tie.close
     (tie.spec
-    blank-line-requires
-    blank-line-requires-2
-    blank-line-requires-3
-    clear-requires
-    clear-requires-2
+    (λ c κs. search needs)
+    (λ c κs. search needs)
+    (λ c κs. search needs)
+    (λ c κs. search needs)
+    (λ c κs. search needs)
     array-borrow-prefix-sums
     slice-aggregate-tap-rows
     array-borrow-prefix-averages
@@ -76,6 +55,6 @@ tap-sums-spec =
     array-borrow-prefix-line
     slice-aggregate-tap-rows-3
     tap-rows-requires
-    same-length
-    same-length-2
+    (λ c. search needs)
+    (λ c. search needs)
     returns)

@@ -18,9 +18,6 @@ room : (c : tie.Then1) → let A = c .before .before .before .before .before .be
     Tables (A .bits) (A .count .now) (A .squares .now) (binCount (A .bits) (A .depth - 8) (A .src .now)) (binSquares (A .bits) (A .depth - 8) (A .src .now) (A .den .now))
 room c = c .before .before .before .before .before .before .before .before .before .before .before .pre .4 (sym (c .before .before .before .shifted-part .ensures .0) ∙ c .if1 .taken)
 
-shifted-part-requires : tie.Need-shifted-part-requires
-shifted-part-requires c κs = search needs
-
 sub-bin-line : tie.Need-sub-bin-line
 sub-bin-line c = let h = room c .narrow in omega arith
 
@@ -49,21 +46,6 @@ add-bins-requires c κs =
       rw (P .1, P .2) (room (c .before .before .before .before .before .before .before .before .before)),
     )
 
-same-length : tie.Need-same-length
-same-length c = search needs
-
-same-length-2 : tie.Need-same-length-2
-same-length-2 c = search needs
-
-same-length-3 : tie.Need-same-length-3
-same-length-3 c = search needs
-
-same-length-4 : tie.Need-same-length-4
-same-length-4 c = search needs
-
-same-length-5 : tie.Need-same-length-5
-same-length-5 c = search needs
-
 returns : tie.Need-returns
 returns c =
     let A = c .before .before .before .before .before .before .before .before .before .before .before .before .before .before .before .before .before .before .before .before .before .before .before .before .before .before .args in
@@ -74,12 +56,6 @@ returns c =
       λ e. (E .0 ∙ ap (increased (A .count .now) (2 ^ A .bits)) (P .1), E .1 ∙ ap (increased (A .squares .now) (2 ^ A .bits)) (P .2)),
     )
 
-same-length-6 : tie.Need-same-length-6
-same-length-6 c = search needs
-
-same-length-7 : tie.Need-same-length-7
-same-length-7 c = search needs
-
 returns-2 : tie.Need-returns-2
 returns-2 c = (sym (c .if1 .left) ∙ c .before .before .before .shifted-part .ensures .0, λ e. absurd (false≢true e))
 
@@ -87,16 +63,16 @@ pub add-in-spec : {M : Type 1} → statement M
 add-in-spec =
     tie.close
     (tie.spec
-    shifted-part-requires
+    (λ c κs. search needs)
     sub-bin-line
     bin-line-requires
     add-bins-requires
-    same-length
-    same-length-2
-    same-length-3
-    same-length-4
-    same-length-5
+    (λ c. search needs)
+    (λ c. search needs)
+    (λ c. search needs)
+    (λ c. search needs)
+    (λ c. search needs)
     returns
-    same-length-6
-    same-length-7
+    (λ c. search needs)
+    (λ c. search needs)
     returns-2)

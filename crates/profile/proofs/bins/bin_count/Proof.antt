@@ -22,15 +22,6 @@ loop-holds : tie.Need-loop-holds Inv-loop μ-loop
 unfolding sumN
 loop-holds c = (omega arith, refl)
 
-mul-hit : tie.Need-mul-hit Inv-loop μ-loop
-mul-hit c = search needs
-
-shared-slice-read-hit : tie.Need-shared-slice-read-hit Inv-loop μ-loop
-shared-slice-read-hit c = search needs
-
-hit-requires : tie.Need-hit-requires Inv-loop μ-loop
-hit-requires c κs = search needs
-
 -- the count with a place more
 more : (c : tie.After-hit Inv-loop μ-loop) → let A = c .before .before .before .before .before .args in
     let H = c .before .before .before .loop in
@@ -41,12 +32,6 @@ add-count : tie.Need-add-count Inv-loop μ-loop
 add-count c =
     let A = c .before .before .before .before .before .args in
     rw (more c) (record { fits = omega (arith, count-le (λ k. getD (A .bins .now) k 0) (c .before .before .before .loop .i + 1) (A .j)) })
-
-add-i : tie.Need-add-i Inv-loop μ-loop
-add-i c = search needs
-
-loop-less : tie.Need-loop-less Inv-loop μ-loop
-loop-less c = search needs
 
 loop-again : tie.Need-loop-again Inv-loop μ-loop
 loop-again c = (omega arith, more c)
@@ -62,11 +47,11 @@ bin-count-spec =
     Inv-loop
     μ-loop
     loop-holds
-    mul-hit
-    shared-slice-read-hit
-    hit-requires
+    (λ c. search needs)
+    (λ c. search needs)
+    (λ c κs. search needs)
     add-count
-    add-i
-    loop-less
+    (λ c. search needs)
+    (λ c. search needs)
     loop-again
     returns)

@@ -17,35 +17,11 @@ abbrev μ-loop : tie.MeasureT-loop
 loop-holds : tie.Need-loop-holds Inv-loop μ-loop
 loop-holds c = fill-starts _ _
 
-mul-x : tie.Need-mul-x Inv-loop μ-loop
-mul-x c = search needs
-
-shared-slice-read-x : tie.Need-shared-slice-read-x Inv-loop μ-loop
-shared-slice-read-x c = search needs
-
-cast-bins : tie.Need-cast-bins Inv-loop μ-loop
-cast-bins c = search needs
-
-shr-bins : tie.Need-shr-bins Inv-loop μ-loop
-shr-bins c = search needs
-
-mul-bins : tie.Need-mul-bins Inv-loop μ-loop
-mul-bins c = search needs
-
-slice-write-bins : tie.Need-slice-write-bins Inv-loop μ-loop
-slice-write-bins c = search needs
-
-add-i : tie.Need-add-i Inv-loop μ-loop
-add-i c = search needs
-
 loop-less : tie.Need-loop-less Inv-loop μ-loop
 loop-less c = simp length-set (omega arith)
 
 loop-again : tie.Need-loop-again Inv-loop μ-loop
 loop-again c = fill-turn _ _ _ (c .before .before .loop .inv) (search needs) refl
-
-same-length : tie.Need-same-length Inv-loop μ-loop
-same-length c = search needs
 
 returns : tie.Need-returns Inv-loop μ-loop
 returns c = fill-ends _ _ (c .before .loop .inv) (search needs)
@@ -57,14 +33,14 @@ bin-line-spec =
     Inv-loop
     μ-loop
     loop-holds
-    mul-x
-    shared-slice-read-x
-    cast-bins
-    shr-bins
-    mul-bins
-    slice-write-bins
-    add-i
+    (λ c. search needs)
+    (λ c. search needs)
+    (λ c. search needs)
+    (λ c. search needs)
+    (λ c. search needs)
+    (λ c. search needs)
+    (λ c. search needs)
     loop-less
     loop-again
-    same-length
+    (λ c. search needs)
     returns)

@@ -5,26 +5,14 @@ use Rattle.profile.proofs.Kept.{empty-bin}
 use Rattle.profile.proofs.bins.bin_of.Statement.{statement}
 use Rattle.profile.proofs.bins.bin_of.Tie as tie
 
-bin-count-requires : tie.Need-bin-count-requires
-bin-count-requires c κs = search needs
-
 returns : tie.Need-returns
 returns c =
     let e = sym (c .if1 .taken) ∙ c .before .bin-count .ensures in
     (e, sym (empty-bin (c .before .before .before .args .j) (c .before .before .before .pre .0) (sym e)))
-
-cast-count : tie.Need-cast-count
-cast-count c = search needs
-
-bin-squares-requires : tie.Need-bin-squares-requires
-bin-squares-requires c κs = search needs
-
-same-length : tie.Need-same-length
-same-length c = search needs
 
 returns-2 : tie.Need-returns-2
 returns-2 c = search needs
 
 pub bin-of-spec : {M : Type 1} → statement M
 bin-of-spec =
-    tie.close (tie.spec bin-count-requires returns cast-count bin-squares-requires same-length returns-2)
+    tie.close (tie.spec (λ c κs. search needs) returns (λ c. search needs) (λ c κs. search needs) (λ c. search needs) returns-2)

@@ -12,12 +12,6 @@ use Rattle.profile.proofs.Answered.{estimate-refused, estimate-accepted
 use Rattle.profile.proofs.estimate.noise_estimate.Statement.{statement}
 use Rattle.profile.proofs.estimate.noise_estimate.Tie as tie
 
-frame-numbers-requires : tie.Need-frame-numbers-requires
-frame-numbers-requires c κs = search needs
-
-refused-requires : tie.Need-refused-requires
-refused-requires c κs = search needs
-
 returns : tie.Need-returns
 returns c =
     let A = c .before .before .before .before .before .before .before .before .before .args in
@@ -48,17 +42,11 @@ six c p q t e =
 luma-profile-requires : tie.Need-luma-profile-requires
 luma-profile-requires c κs = pairs c .0
 
-refused-requires-2 : tie.Need-refused-requires-2
-refused-requires-2 c κs = search needs
-
 returns-2 : tie.Need-returns-2
 returns-2 c = c .refused2 .ensures ∙ six (c .before .before .before .before) (sym (not-true (c .before .before .before .luma-profile .result .low) (c .before .if2 .taken)) ∙ c .before .before .before .luma-profile .ensures .0) refl refl refl
 
 chroma-profile-requires : tie.Need-chroma-profile-requires
 chroma-profile-requires c κs = pairs (c .before .before .before) .1
-
-refused-requires-3 : tie.Need-refused-requires-3
-refused-requires-3 c κs = search needs
 
 returns-3 : tie.Need-returns-3
 returns-3 c =
@@ -68,9 +56,6 @@ returns-3 c =
 
 chroma-profile-requires-2 : tie.Need-chroma-profile-requires-2
 chroma-profile-requires-2 c κs = pairs (c .before .before .before .before .before .before) .2
-
-refused-requires-4 : tie.Need-refused-requires-4
-refused-requires-4 c κs = search needs
 
 returns-4 : tie.Need-returns-4
 returns-4 c =
@@ -96,16 +81,16 @@ pub noise-estimate-spec : {M : Type 1} → statement M
 noise-estimate-spec =
     tie.close
     (tie.spec
-    frame-numbers-requires
-    refused-requires
+    (λ c κs. search needs)
+    (λ c κs. search needs)
     returns
     luma-profile-requires
-    refused-requires-2
+    (λ c κs. search needs)
     returns-2
     chroma-profile-requires
-    refused-requires-3
+    (λ c κs. search needs)
     returns-3
     chroma-profile-requires-2
-    refused-requires-4
+    (λ c κs. search needs)
     returns-4
     returns-5)

@@ -6,20 +6,8 @@ use lib.Seq.{length-take-le}
 use Rattle.profile.proofs.parts.part_squares.Statement.{statement}
 use Rattle.profile.proofs.parts.part_squares.Tie as tie
 
-blank-line-requires : tie.Need-blank-line-requires
-blank-line-requires c κs = search needs
-
-blank-line-requires-2 : tie.Need-blank-line-requires-2
-blank-line-requires-2 c κs = search needs
-
-array-borrow-prefix-noise : tie.Need-array-borrow-prefix-noise
-array-borrow-prefix-noise c = search needs
-
 slice-aggregate-squares-in : tie.Need-slice-aggregate-squares-in
 slice-aggregate-squares-in c = sym (length-take-le (length (c .before .before .before .before .before .args .src .now)) (c .before .before .blank-line .result) (search needs))
-
-array-borrow-prefix-line : tie.Need-array-borrow-prefix-line
-array-borrow-prefix-line c = search needs
 
 slice-aggregate-squares-in-2 : tie.Need-slice-aggregate-squares-in-2
 slice-aggregate-squares-in-2 c = sym (length-take-le (length (c .before .before .before .before .before .before .args .src .now)) (c .before .before .blank-line2 .result) (search needs))
@@ -34,11 +22,11 @@ pub part-squares-spec : {M : Type 1} → statement M
 part-squares-spec =
     tie.close
     (tie.spec
-    blank-line-requires
-    blank-line-requires-2
-    array-borrow-prefix-noise
+    (λ c κs. search needs)
+    (λ c κs. search needs)
+    (λ c. search needs)
     slice-aggregate-squares-in
-    array-borrow-prefix-line
+    (λ c. search needs)
     slice-aggregate-squares-in-2
     squares-in-requires
     returns)

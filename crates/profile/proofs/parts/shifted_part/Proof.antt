@@ -16,29 +16,8 @@ tested c = λ i. c .before .samples-low .ensures i && c .samples-low2 .ensures i
 lows : (c : tie.Then1) → let A = c .before .before .before .before .before .args in Low (A .depth) (A .src .now) (A .den .now)
 lows c = is-low _ _ _ (sym (tested (c .before)) ∙ c .if1 .taken)
 
-samples-low-requires : tie.Need-samples-low-requires
-samples-low-requires c κs = search needs
-
-samples-low-requires-2 : tie.Need-samples-low-requires-2
-samples-low-requires-2 c κs = search needs
-
 noise-line-requires : tie.Need-noise-line-requires
 noise-line-requires c κs = let S = c .before .before .before .before .before .before in places (S .pre .0) (lows (c .before)) _ (S .pre .1)
-
-sub-shifted-line : tie.Need-sub-shifted-line
-sub-shifted-line c = search needs
-
-cast-shifted-line : tie.Need-cast-shifted-line
-cast-shifted-line c = search needs
-
-shifted-line-requires : tie.Need-shifted-line-requires
-shifted-line-requires c κs = search needs
-
-same-length : tie.Need-same-length
-same-length c = search needs
-
-same-length-2 : tie.Need-same-length-2
-same-length-2 c = search needs
 
 returns : tie.Need-returns
 returns c =
@@ -56,13 +35,13 @@ pub shifted-part-spec : {M : Type 1} → statement M
 shifted-part-spec =
     tie.close
     (tie.spec
-    samples-low-requires
-    samples-low-requires-2
+    (λ c κs. search needs)
+    (λ c κs. search needs)
     noise-line-requires
-    sub-shifted-line
-    cast-shifted-line
-    shifted-line-requires
-    same-length
-    same-length-2
+    (λ c. search needs)
+    (λ c. search needs)
+    (λ c κs. search needs)
+    (λ c. search needs)
+    (λ c. search needs)
     returns
     returns-2)

@@ -10,20 +10,11 @@ use Rattle.profile.proofs.Lows.{is-low, part-small}
 use Rattle.profile.proofs.parts.squares_in.Statement.{statement}
 use Rattle.profile.proofs.parts.squares_in.Tie as tie
 
-shifted-part-requires : tie.Need-shifted-part-requires
-shifted-part-requires c κs = search needs
-
 line-squares-requires : tie.Need-line-squares-requires
 line-squares-requires c κs =
     let P = c .before .before .before .before .shifted-part .ensures in
     let t = c .before .if1 .taken in
     part-small (c .before .before .before .before .before .before .before .before .before .pre .0) (is-low _ _ _ (sym (P .0) ∙ t)) (P .1 t)
-
-same-length : tie.Need-same-length
-same-length c = search needs
-
-same-length-2 : tie.Need-same-length-2
-same-length-2 c = search needs
 
 returns : tie.Need-returns
 returns c =
@@ -32,12 +23,6 @@ returns c =
     let t = c .before .before .if1 .taken in
     (sym t ∙ P .0, λ e. c .line-squares .ensures ∙ line-sum (length (A .src .now)) (shiftedNoise (A .depth - 8) (A .src .now) (A .den .now)) (P .1 t))
 
-same-length-3 : tie.Need-same-length-3
-same-length-3 c = search needs
-
-same-length-4 : tie.Need-same-length-4
-same-length-4 c = search needs
-
 returns-2 : tie.Need-returns-2
 returns-2 c = (sym (c .if1 .left) ∙ c .before .before .before .shifted-part .ensures .0, λ e. absurd (false≢true e))
 
@@ -45,11 +30,11 @@ pub squares-in-spec : {M : Type 1} → statement M
 squares-in-spec =
     tie.close
     (tie.spec
-    shifted-part-requires
+    (λ c κs. search needs)
     line-squares-requires
-    same-length
-    same-length-2
+    (λ c. search needs)
+    (λ c. search needs)
     returns
-    same-length-3
-    same-length-4
+    (λ c. search needs)
+    (λ c. search needs)
     returns-2)

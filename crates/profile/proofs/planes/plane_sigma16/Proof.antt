@@ -14,9 +14,6 @@ use Rattle.profile.proofs.Answered.{sigma-refused, sigma-accepted}
 use Rattle.profile.proofs.planes.plane_sigma16.Statement.{statement}
 use Rattle.profile.proofs.planes.plane_sigma16.Tie as tie
 
-pair-numbers-requires : tie.Need-pair-numbers-requires
-pair-numbers-requires c κs = search needs
-
 returns : tie.Need-returns
 returns c =
     let A = c .before .before .before .before .args in
@@ -41,9 +38,6 @@ returns-2 c =
     sigma-refused (A .width) (A .height) (A .depth) (A .src .now) (A .den .now)
     (sym (asked (c .before .before) ∙ ap (λ (t : Bool). cond t 0 6) (not-true (c .before .before .plane-squares .result .low) (c .if2 .taken)))) (λ e. omega arith)
 
-sigma16-requires : tie.Need-sigma16-requires
-sigma16-requires c κs = search needs
-
 returns-3 : tie.Need-returns-3
 unfolding planeSigma16
 returns-3 c =
@@ -56,9 +50,9 @@ pub plane-sigma16-spec : {M : Type 1} → statement M
 plane-sigma16-spec =
     tie.close
     (tie.spec
-    pair-numbers-requires
+    (λ c κs. search needs)
     returns
     plane-squares-requires
     returns-2
-    sigma16-requires
+    (λ c κs. search needs)
     returns-3)

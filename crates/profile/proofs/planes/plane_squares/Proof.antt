@@ -26,42 +26,9 @@ loop-holds : tie.Need-loop-holds Inv-loop μ-loop
 unfolding sumN
 loop-holds c = (refl, omega arith, low-none _ _ _, refl)
 
-sub-part-size : tie.Need-sub-part-size Inv-loop μ-loop
-sub-part-size c = search needs
-
-part-size-requires : tie.Need-part-size-requires Inv-loop μ-loop
-part-size-requires c κs = search needs
-
 -- the next part
 inside : (c : tie.After-part-size Inv-loop μ-loop) → c .before .before .loop .from + c .part-size .result ≤ length (c .before .before .before .before .before .args .src .now)
 inside c = omega arith
-
-add-to : tie.Need-add-to Inv-loop μ-loop
-add-to c = search needs
-
-mul-part-squares : tie.Need-mul-part-squares Inv-loop μ-loop
-mul-part-squares c = search needs
-
-sub-part-squares : tie.Need-sub-part-squares Inv-loop μ-loop
-sub-part-squares c = search needs
-
-part-part-squares-start : tie.Need-part-part-squares-start Inv-loop μ-loop
-part-part-squares-start c = search needs
-
-part-part-squares-end : tie.Need-part-part-squares-end Inv-loop μ-loop
-part-part-squares-end c = search needs
-
-mul-part-squares-2 : tie.Need-mul-part-squares-2 Inv-loop μ-loop
-mul-part-squares-2 c = search needs
-
-sub-part-squares-2 : tie.Need-sub-part-squares-2 Inv-loop μ-loop
-sub-part-squares-2 c = search needs
-
-part-part-squares-start-2 : tie.Need-part-part-squares-start-2 Inv-loop μ-loop
-part-part-squares-start-2 c = search needs
-
-part-part-squares-end-2 : tie.Need-part-part-squares-end-2 Inv-loop μ-loop
-part-part-squares-end-2 c = search needs
 
 part-squares-requires : tie.Need-part-squares-requires Inv-loop μ-loop
 part-squares-requires c κs = part-pair (c .before .before .before .before .before .before .before .pre) (c .before .before .before .before .loop .from) (c .before .before .part-size .result) (inside (c .before .before)) (omega arith)
@@ -89,9 +56,6 @@ add-sum : tie.Need-add-sum Inv-loop μ-loop
 add-sum c =
     rw (more c) (record { fits = omega (arith, c .before .before .before .before .before .before .before .before .before .before .before .pre .few, inside (c .before .before .before .before .before .before), sum-bound 65536 _ _ (square-small (c .before .before .before .before .before .before .before .before .before .before .before .pre) (low c))) })
 
-loop-less : tie.Need-loop-less Inv-loop μ-loop
-loop-less c = search needs
-
 loop-again : tie.Need-loop-again Inv-loop μ-loop
 loop-again c = (refl, inside (c .before .before .before .before .before .before), low c, more c)
 
@@ -109,20 +73,20 @@ plane-squares-spec =
     Inv-loop
     μ-loop
     loop-holds
-    sub-part-size
-    part-size-requires
-    add-to
-    mul-part-squares
-    sub-part-squares
-    part-part-squares-start
-    part-part-squares-end
-    mul-part-squares-2
-    sub-part-squares-2
-    part-part-squares-start-2
-    part-part-squares-end-2
+    (λ c. search needs)
+    (λ c κs. search needs)
+    (λ c. search needs)
+    (λ c. search needs)
+    (λ c. search needs)
+    (λ c. search needs)
+    (λ c. search needs)
+    (λ c. search needs)
+    (λ c. search needs)
+    (λ c. search needs)
+    (λ c. search needs)
     part-squares-requires
     returns
     add-sum
-    loop-less
+    (λ c. search needs)
     loop-again
     returns-2)

@@ -5,9 +5,6 @@ use Rattle.profile.specs.Steps.{sigmaOfBin}
 use Rattle.profile.proofs.profiles.bin_sigma16.Statement.{statement}
 use Rattle.profile.proofs.profiles.bin_sigma16.Tie as tie
 
-sigma16-requires : tie.Need-sigma16-requires
-sigma16-requires c κs = search needs
-
 returns : tie.Need-returns
 unfolding sigmaOfBin
 returns c = rw (le-leb _ _ (c .before .if1 .taken)) (c .sigma16 .ensures)
@@ -17,4 +14,4 @@ unfolding sigmaOfBin
 returns-2 c = rw (lt-leb _ _ (c .if1 .left))
 
 pub bin-sigma16-spec : {M : Type 1} → statement M
-bin-sigma16-spec = tie.close (tie.spec sigma16-requires returns returns-2)
+bin-sigma16-spec = tie.close (tie.spec (λ c κs. search needs) returns returns-2)

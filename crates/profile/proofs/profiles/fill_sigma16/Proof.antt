@@ -17,38 +17,11 @@ abbrev μ-loop : tie.MeasureT-loop
 loop-holds : tie.Need-loop-holds Inv-loop μ-loop
 loop-holds c = fill-starts _ _
 
-mul-bin-sigma16 : tie.Need-mul-bin-sigma16 Inv-loop μ-loop
-mul-bin-sigma16 c = search needs
-
-shared-slice-read-bin-sigma16 : tie.Need-shared-slice-read-bin-sigma16 Inv-loop μ-loop
-shared-slice-read-bin-sigma16 c = search needs
-
-mul-bin-sigma16-2 : tie.Need-mul-bin-sigma16-2 Inv-loop μ-loop
-mul-bin-sigma16-2 c = search needs
-
-shared-slice-read-bin-sigma16-2 : tie.Need-shared-slice-read-bin-sigma16-2 Inv-loop μ-loop
-shared-slice-read-bin-sigma16-2 c = search needs
-
-bin-sigma16-requires : tie.Need-bin-sigma16-requires Inv-loop μ-loop
-bin-sigma16-requires c κs = search needs
-
-mul-sigma : tie.Need-mul-sigma Inv-loop μ-loop
-mul-sigma c = search needs
-
-slice-write-sigma : tie.Need-slice-write-sigma Inv-loop μ-loop
-slice-write-sigma c = search needs
-
-add-j : tie.Need-add-j Inv-loop μ-loop
-add-j c = search needs
-
 loop-less : tie.Need-loop-less Inv-loop μ-loop
 loop-less c = simp length-set (omega arith)
 
 loop-again : tie.Need-loop-again Inv-loop μ-loop
 loop-again c = fill-turn _ _ _ (c .before .before .before .before .loop .inv) (search needs) (c .bin-sigma16 .ensures)
-
-same-length : tie.Need-same-length Inv-loop μ-loop
-same-length c = search needs
 
 returns : tie.Need-returns Inv-loop μ-loop
 returns c = fill-ends _ _ (c .before .loop .inv) (search needs)
@@ -60,15 +33,15 @@ fill-sigma16-spec =
     Inv-loop
     μ-loop
     loop-holds
-    mul-bin-sigma16
-    shared-slice-read-bin-sigma16
-    mul-bin-sigma16-2
-    shared-slice-read-bin-sigma16-2
-    bin-sigma16-requires
-    mul-sigma
-    slice-write-sigma
-    add-j
+    (λ c. search needs)
+    (λ c. search needs)
+    (λ c. search needs)
+    (λ c. search needs)
+    (λ c κs. search needs)
+    (λ c. search needs)
+    (λ c. search needs)
+    (λ c. search needs)
     loop-less
     loop-again
-    same-length
+    (λ c. search needs)
     returns)

@@ -31,42 +31,9 @@ loop-holds c =
     let bin = binAt (A .bits) (A .depth - 8) (A .src .now) in
     (refl, omega arith, refl, refl, low-none _ _ _, B .counts ∙ binned-none bin (λ i. 1) (2 ^ A .bits), B .sums ∙ binned-none bin (square (A .depth - 8) (A .src .now) (A .den .now)) (2 ^ A .bits))
 
-sub-part-size : tie.Need-sub-part-size Inv-loop μ-loop
-sub-part-size c = search needs
-
-part-size-requires : tie.Need-part-size-requires Inv-loop μ-loop
-part-size-requires c κs = search needs
-
 -- the next part
 inside : (c : tie.After-part-size Inv-loop μ-loop) → c .before .before .loop .from + c .part-size .result ≤ length (c .before .before .before .before .before .before .before .args .src .now)
 inside c = omega arith
-
-add-to : tie.Need-add-to Inv-loop μ-loop
-add-to c = search needs
-
-mul-add-part : tie.Need-mul-add-part Inv-loop μ-loop
-mul-add-part c = search needs
-
-sub-add-part : tie.Need-sub-add-part Inv-loop μ-loop
-sub-add-part c = search needs
-
-part-add-part-start : tie.Need-part-add-part-start Inv-loop μ-loop
-part-add-part-start c = search needs
-
-part-add-part-end : tie.Need-part-add-part-end Inv-loop μ-loop
-part-add-part-end c = search needs
-
-mul-add-part-2 : tie.Need-mul-add-part-2 Inv-loop μ-loop
-mul-add-part-2 c = search needs
-
-sub-add-part-2 : tie.Need-sub-add-part-2 Inv-loop μ-loop
-sub-add-part-2 c = search needs
-
-part-add-part-start-2 : tie.Need-part-add-part-start-2 Inv-loop μ-loop
-part-add-part-start-2 c = search needs
-
-part-add-part-end-2 : tie.Need-part-add-part-end-2 Inv-loop μ-loop
-part-add-part-end-2 c = search needs
 
 add-part-requires : tie.Need-add-part-requires Inv-loop μ-loop
 add-part-requires c κs =
@@ -78,18 +45,9 @@ add-part-requires c κs =
       λ t. tables (S .args .bits) (S .pre .0) (H .from) m i (S .pre .1 .narrow) (omega (arith, S .pre .0 .few)) (low-more (S .pre .0) (H .from) m i (H .inv .4) (is-low _ _ _ t)) (H .inv .5) (H .inv .6),
     )
 
-same-length : tie.Need-same-length Inv-loop μ-loop
-same-length c = search needs
-
-same-length-2 : tie.Need-same-length-2 Inv-loop μ-loop
-same-length-2 c = search needs
-
 returns : tie.Need-returns Inv-loop μ-loop
 returns c =
     (sym (not-low (c .before .before .before .before .before .before .before .before .before .before .before .before .before .before .before .before .before .pre .0) (c .before .before .before .before .before .before .before .before .before .before .before .before .loop .from) (c .before .before .before .before .before .before .before .before .before .before .part-size .result) (inside (c .before .before .before .before .before .before .before .before .before .before)) (sym (c .before .before .before .before .before .add-part .ensures .0) ∙ not-true _ (c .if1 .taken))), λ e. absurd (false≢true e))
-
-loop-less : tie.Need-loop-less Inv-loop μ-loop
-loop-less c = search needs
 
 loop-again : tie.Need-loop-again Inv-loop μ-loop
 loop-again c =
@@ -109,12 +67,6 @@ loop-again c =
       E .1 t .1 ∙ squares-part (S .args .bits) (S .pre .0) (H .from) m i (H .inv .6),
     )
 
-same-length-3 : tie.Need-same-length-3 Inv-loop μ-loop
-same-length-3 c = search needs
-
-same-length-4 : tie.Need-same-length-4 Inv-loop μ-loop
-same-length-4 c = search needs
-
 returns-2 : tie.Need-returns-2 Inv-loop μ-loop
 returns-2 c =
     let S = c .before .before .before .before .before .before in
@@ -131,23 +83,23 @@ plane-bins-spec =
     Inv-loop
     μ-loop
     loop-holds
-    sub-part-size
-    part-size-requires
-    add-to
-    mul-add-part
-    sub-add-part
-    part-add-part-start
-    part-add-part-end
-    mul-add-part-2
-    sub-add-part-2
-    part-add-part-start-2
-    part-add-part-end-2
+    (λ c. search needs)
+    (λ c κs. search needs)
+    (λ c. search needs)
+    (λ c. search needs)
+    (λ c. search needs)
+    (λ c. search needs)
+    (λ c. search needs)
+    (λ c. search needs)
+    (λ c. search needs)
+    (λ c. search needs)
+    (λ c. search needs)
     add-part-requires
-    same-length
-    same-length-2
+    (λ c. search needs)
+    (λ c. search needs)
     returns
-    loop-less
+    (λ c. search needs)
     loop-again
-    same-length-3
-    same-length-4
+    (λ c. search needs)
+    (λ c. search needs)
     returns-2)

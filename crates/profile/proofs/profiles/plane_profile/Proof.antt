@@ -11,15 +11,6 @@ use Rattle.profile.proofs.Figures.{bins-fit, figures}
 use Rattle.profile.proofs.profiles.plane_profile.Statement.{statement}
 use Rattle.profile.proofs.profiles.plane_profile.Tie as tie
 
-plane-bins-requires : tie.Need-plane-bins-requires
-plane-bins-requires c κs = search needs
-
-same-length : tie.Need-same-length
-same-length c = search needs
-
-same-length-2 : tie.Need-same-length-2
-same-length-2 c = search needs
-
 returns : tie.Need-returns
 returns c = (sym (not-true (c .before .before .before .before .before .plane-bins .result) (c .if1 .taken)) ∙ c .before .before .before .before .before .plane-bins .ensures .0, λ e. absurd (false≢true e))
 
@@ -29,27 +20,12 @@ sum-of-requires c κs =
     let t = not-false (c .before .before .before .before .before .before .plane-bins .result) (c .before .if1 .left) in
     bins-fit (c .before .before .before .before .before .before .before .before .before .before .before .before .before .before .pre .0) (is-low _ _ _ (sym (E .0) ∙ t)) (c .before .before .before .before .before .before .before .before .before .before .before .before .before .before .args .bits) (E .1 t .1)
 
-sigma16-requires : tie.Need-sigma16-requires
-sigma16-requires c κs = search needs
-
-least-count-requires : tie.Need-least-count-requires
-least-count-requires c κs = search needs
-
 fill-sigma16-requires : tie.Need-fill-sigma16-requires
 fill-sigma16-requires c κs =
     let S = c .before .before .before .before .before .before .before .before .before .before .before .before .before .before .before .before .before .before .before .before in
     let K = c .before .before .before .before .before .before .before .before .before .before .before .before .plane-bins .kept .1 .1 .1 .1 in
     let size = length-replicate {A = ℕ} (2 ^ S .args .bits) 0 in
     (K .0 ∙ ap length (S .pre .1 .counts) ∙ size ∙ sym (S .pre .2), K .1 .0 ∙ ap length (S .pre .1 .sums) ∙ size ∙ sym (S .pre .2))
-
-same-length-3 : tie.Need-same-length-3
-same-length-3 c = search needs
-
-same-length-4 : tie.Need-same-length-4
-same-length-4 c = search needs
-
-same-length-5 : tie.Need-same-length-5
-same-length-5 c = search needs
 
 returns-2 : tie.Need-returns-2
 returns-2 c =
@@ -66,15 +42,15 @@ pub plane-profile-spec : {M : Type 1} → statement M
 plane-profile-spec =
     tie.close
     (tie.spec
-    plane-bins-requires
-    same-length
-    same-length-2
+    (λ c κs. search needs)
+    (λ c. search needs)
+    (λ c. search needs)
     returns
     sum-of-requires
-    sigma16-requires
-    least-count-requires
+    (λ c κs. search needs)
+    (λ c κs. search needs)
     fill-sigma16-requires
-    same-length-3
-    same-length-4
-    same-length-5
+    (λ c. search needs)
+    (λ c. search needs)
+    (λ c. search needs)
     returns-2)

@@ -19,12 +19,6 @@ loop-holds : tie.Need-loop-holds Inv-loop μ-loop
 unfolding sumN
 loop-holds c = (omega arith, refl)
 
-mul-sum : tie.Need-mul-sum Inv-loop μ-loop
-mul-sum c = search needs
-
-shared-slice-read-sum : tie.Need-shared-slice-read-sum Inv-loop μ-loop
-shared-slice-read-sum c = search needs
-
 more : (c : tie.After-shared-slice-known Inv-loop μ-loop) → let xs = c .before .before .before .args .xs .now in
     c .before .before .loop .sum + getD xs (c .before .before .loop .i) 0 ≡ sumN (λ k. getD xs k 0) (c .before .before .loop .i + 1)
 more c = ap (λ (s : ℕ). s + getD (c .before .before .before .args .xs .now) (c .before .before .loop .i) 0) (c .before .before .loop .inv .1) ∙ sym (sum-more _ _)
@@ -35,12 +29,6 @@ add-sum c =
     let xs = c .before .before .before .args .xs .now in
     let l : c .before .before .loop .i + 1 ≤ length xs = omega arith in
     rw (more c) (record { fits = omega (arith, c .before .before .before .pre, sum-mono (λ k. getD xs k 0) (c .before .before .loop .i + 1) (length xs) l) })
-
-add-i : tie.Need-add-i Inv-loop μ-loop
-add-i c = search needs
-
-loop-less : tie.Need-loop-less Inv-loop μ-loop
-loop-less c = search needs
 
 loop-again : tie.Need-loop-again Inv-loop μ-loop
 loop-again c = (omega arith, more c)
@@ -56,10 +44,10 @@ sum-of-spec =
     Inv-loop
     μ-loop
     loop-holds
-    mul-sum
-    shared-slice-read-sum
+    (λ c. search needs)
+    (λ c. search needs)
     add-sum
-    add-i
-    loop-less
+    (λ c. search needs)
+    (λ c. search needs)
     loop-again
     returns)

@@ -15,11 +15,8 @@ product-lt a b ha hb =
 mul-product : tie.Need-mul-product
 mul-product c = record { fits = product-lt (c .args .a) (c .args .b) (search needs) (search needs) }
 
-cast-result : tie.Need-cast-result
-cast-result c = search needs
-
 returns : tie.Need-returns
 returns c = search needs
 
 pub wrapping-mul-spec : {M : Type 1} → statement M
-wrapping-mul-spec = tie.close (tie.spec mul-product cast-result returns)
+wrapping-mul-spec = tie.close (tie.spec mul-product (λ c. search needs) returns)

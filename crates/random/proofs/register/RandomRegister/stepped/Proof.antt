@@ -16,15 +16,6 @@ use Rattle.random.proofs.register.RandomRegister.stepped.Tie as tie
 returns : tie.Need-returns
 returns c = sym (step-refused (c .before .args .self) (c .before .args .bits) (c .if1 .taken))
 
-cast-r : tie.Need-cast-r
-cast-r c = search needs
-
-shr-top : tie.Need-shr-top
-shr-top c = search needs
-
-shl-top : tie.Need-shl-top
-shl-top c = search needs
-
 sub-top : tie.Need-sub-top
 sub-top c = let bits = c .before .before .args .bits in omega (arith, one-shl bits (search needs), pow-pos bits)
 
@@ -50,4 +41,4 @@ returns-2 c =
     rw (coded r, answers-agree r bits h l, shifted-is-moved r h) (sym (step-accepted g bits l))
 
 pub stepped-spec : {M : Type 1} → statement M
-stepped-spec = tie.close (tie.spec returns cast-r shr-top shl-top sub-top cast-state returns-2)
+stepped-spec = tie.close (tie.spec returns (λ c. search needs) (λ c. search needs) (λ c. search needs) sub-top cast-state returns-2)
