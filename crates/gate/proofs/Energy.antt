@@ -7,7 +7,7 @@ use mathlib.Core.Bool.{Bool, true, false, not}
 use lib.Dec.{T, leb, leb→le, nleb→lt}
 use lib.IntN.{ℤ, pos, negsuc, natAbs, _+ℤ_, _*ℤ_}
 use lib.Signed.{_≤ℤ_}
-use Rattle.laws.specs.Sums.{sumTo, span}
+use Rattle.laws.specs.Sums.{total, sumTo, span}
 use Rattle.laws.proofs.Whole.{abs-add, abs-mul, square-nonneg}
 use Rattle.laws.proofs.Sums.{sum-ext, sum-split, sum-nonneg}
 
@@ -37,7 +37,7 @@ module _ (g : ℕ → ℤ) (h : (i : ℕ) → pos 0 ≤ℤ g i) where
 
   -- smaller terms have a smaller sum
   pub sum-within : (f : ℕ → ℤ) (n : ℕ) → ((i : ℕ) → i < n → natAbs (f i) ≤ natAbs (g i)) → natAbs (sumTo f n) ≤ natAbs (sumTo g n)
-  unfolding sumTo
+  unfolding total
   sum-within f zero l = zero-le
   sum-within f (suc n) l =
       le-trans (abs-add (sumTo f n) (f n))
@@ -55,7 +55,7 @@ module _ (x : ℕ → ℤ) where
   turn s a b p q t h k = omega arith
 
   twice-row : (lag n : ℕ) → 2 * natAbs (sumTo (λ c. x c *ℤ x (c + lag)) n) ≤ natAbs (sumTo square n) + natAbs (sumTo (λ c. square (c + lag)) n)
-  unfolding sumTo
+  unfolding total
   twice-row lag zero = zero-le
   twice-row lag (suc n) =
       let y = x n in

@@ -4,7 +4,9 @@ pub mod Table
 pub mod Fill
 pub mod Parts
 pub mod Whole
+pub mod Totals
 pub mod Sums
+pub mod SumsN
 pub mod Is
 pub mod Finite
 pub mod Scaled

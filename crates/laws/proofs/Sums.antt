@@ -1,4 +1,4 @@
--- Sums of whole numbers: equal terms, parts, sums of sums, a common factor, size and sign, rows, and the same as the sum of a list. Each by induction on the number of terms. Assumes nothing.
+-- Sums of whole numbers: those of any total, a common factor, size and sign, rows, and the same as the sum of a list. Each by induction on the number of terms. Assumes nothing.
 use mathlib.Core.Path.{_≡_, refl, sym, ap, _∙_}
 use mathlib.Core.List.{List, [], _∷_, _++_, map}
 use Prim.Native.Nat.{ℕ, zero, suc, _+_, _-_, _*_, _≤_, _<_, zero-le}
@@ -6,37 +6,27 @@ use native.Mathlib.Nat.{le-step, le-trans, le-of-eq, lt-suc-self, zero-add, add-
 use native.Mathlib.Numerals.{add-one}
 use lib.IntN.{ℤ, pos, negℤ, natAbs, _+ℤ_, _-ℤ_, _*ℤ_, +ℤ-idl, +ℤ-idr, +ℤ-assoc, +ℤ-comm, +ℤ-negℤ-cancel, *ℤ-zero, zero-*ℤ}
 use lib.Signed.{_≤ℤ_, ≤ℤ-refl}
-use Rattle.laws.specs.Sums.{sumTo, span, sumZ}
+use Rattle.laws.specs.Sums.{total, sumTo, span, sumZ}
 use Rattle.laws.specs.Table.{tabulate, range}
 use Rattle.laws.proofs.Table.{map-tabulate}
+use Rattle.laws.proofs.Totals.{total-more, total-ext, total-split, total-add}
 use Rattle.laws.proofs.Whole.{abs-add, add-nonneg, swap-middle, mul-sum, sum-mul}
 
--- one term more
 pub sum-more : (g : ℕ → ℤ) (n : ℕ) → sumTo g n +ℤ g n ≡ sumTo g (n + 1)
-unfolding sumTo
-sum-more g n = ap (λ (m : ℕ). sumTo g m) (sym (add-one n))
+sum-more g n = total-more _+ℤ_ (pos 0) g n
 
--- equal terms, equal sums
 pub sum-ext : (f g : ℕ → ℤ) (n : ℕ) → ((i : ℕ) → i < n → f i ≡ g i) → sumTo f n ≡ sumTo g n
-unfolding sumTo
-sum-ext f g zero h = refl
-sum-ext f g (suc n) h = λ j. sum-ext f g n (λ i l. h i (le-step l)) j +ℤ h n (lt-suc-self n) j
+sum-ext f g n h = total-ext _+ℤ_ (pos 0) f g n h
 
 pub span-zero : (g : ℕ → ℤ) (n : ℕ) → span g 0 n ≡ sumTo g n
 span-zero g n = sum-ext (λ i. g (0 + i)) g n (λ i l. ap g (zero-add i))
 
--- the first a terms, and n terms after them
 pub sum-split : (g : ℕ → ℤ) (a n : ℕ) → sumTo g (a + n) ≡ sumTo g a +ℤ span g a n
-unfolding sumTo
-sum-split g a zero = ap (λ (m : ℕ). sumTo g m) (add-zero a) ∙ sym (+ℤ-idr (sumTo g a))
-sum-split g a (suc n) =
-    ap (λ (m : ℕ). sumTo g m) (add-suc a n)
-    ∙ ap (λ (z : ℤ). z +ℤ g (a + n)) (sum-split g a n)
-    ∙ +ℤ-assoc (sumTo g a) (span g a n) (g (a + n))
+sum-split g a n = total-split _+ℤ_ (pos 0) +ℤ-assoc +ℤ-idr g a n
 
 -- n terms from the second on, from the first n: less the first, and one more
 pub slide : (g : ℕ → ℤ) (n : ℕ) → sumTo g n -ℤ g 0 +ℤ g n ≡ span g 1 n
-unfolding sumTo
+unfolding total
 slide g n =
     regroup (sumTo g n) (g 0) (g n) (span g 1 n)
     (sum-more g n ∙ ap (λ (m : ℕ). sumTo g m) (add-comm n 1) ∙ sum-split g 1 n ∙ ap (λ (z : ℤ). z +ℤ span g 1 n) (+ℤ-idl (g 0)))
@@ -49,26 +39,23 @@ slide g n =
         ∙ ap (λ (z : ℤ). z -ℤ x) (e ∙ +ℤ-comm x t)
         ∙ +ℤ-negℤ-cancel t x
 
--- the sum of two sums
 pub sum-add : (f g : ℕ → ℤ) (n : ℕ) → sumTo (λ i. f i +ℤ g i) n ≡ sumTo f n +ℤ sumTo g n
-unfolding sumTo
-sum-add f g zero = refl
-sum-add f g (suc n) = ap (λ (z : ℤ). z +ℤ (f n +ℤ g n)) (sum-add f g n) ∙ swap-middle (sumTo f n) (sumTo g n) (f n) (g n)
+sum-add f g n = total-add _+ℤ_ (pos 0) refl swap-middle f g n
 
 -- a factor of every term
 pub sum-factor-left : (c : ℤ) (g : ℕ → ℤ) (n : ℕ) → sumTo (λ i. c *ℤ g i) n ≡ c *ℤ sumTo g n
-unfolding sumTo
+unfolding total
 sum-factor-left c g zero = sym (*ℤ-zero c)
 sum-factor-left c g (suc n) = ap (λ (z : ℤ). z +ℤ c *ℤ g n) (sum-factor-left c g n) ∙ sym (mul-sum c (sumTo g n) (g n))
 
 pub sum-factor-right : (g : ℕ → ℤ) (c : ℤ) (n : ℕ) → sumTo (λ i. g i *ℤ c) n ≡ sumTo g n *ℤ c
-unfolding sumTo
+unfolding total
 sum-factor-right g c zero = sym (zero-*ℤ c)
 sum-factor-right g c (suc n) = ap (λ (z : ℤ). z +ℤ g n *ℤ c) (sum-factor-right g c n) ∙ sym (sum-mul (sumTo g n) (g n) c)
 
 -- terms of at most b in size
 pub sum-bound : (g : ℕ → ℤ) (b n : ℕ) → ((i : ℕ) → i < n → natAbs (g i) ≤ b) → natAbs (sumTo g n) ≤ n * b
-unfolding sumTo
+unfolding total
 sum-bound g b zero h = zero-le
 sum-bound g b (suc n) h =
     le-trans (abs-add (sumTo g n) (g n))
@@ -76,13 +63,13 @@ sum-bound g b (suc n) h =
 
 -- terms that are not negative
 pub sum-nonneg : (g : ℕ → ℤ) (n : ℕ) → ((i : ℕ) → i < n → pos 0 ≤ℤ g i) → pos 0 ≤ℤ sumTo g n
-unfolding sumTo
+unfolding total
 sum-nonneg g zero h = ≤ℤ-refl (pos 0)
 sum-nonneg g (suc n) h = add-nonneg (sumTo g n) (g n) (sum-nonneg g n (λ i l. h i (le-step l))) (h n (lt-suc-self n))
 
 -- h rows of w terms each are h * w terms
 pub sum-rows : (g : ℕ → ℤ) (w h : ℕ) → sumTo (λ r. span g (r * w) w) h ≡ sumTo g (h * w)
-unfolding sumTo
+unfolding total
 sum-rows g w zero = ap (λ (m : ℕ). sumTo g m) (sym (zero-mul w))
 sum-rows g w (suc h) =
     ap (λ (z : ℤ). z +ℤ span g (h * w) w) (sum-rows g w h)
@@ -96,7 +83,7 @@ sum-append [] ys = sym (+ℤ-idl (sumZ ys))
 sum-append (x ∷ xs) ys = ap (λ (z : ℤ). x +ℤ z) (sum-append xs ys) ∙ sym (+ℤ-assoc x (sumZ xs) (sumZ ys))
 
 pub sum-list : (g : ℕ → ℤ) (n : ℕ) → sumTo g n ≡ sumZ (tabulate n g)
-unfolding sumTo sumZ
+unfolding total sumZ
 sum-list g zero = refl
 sum-list g (suc n) = (λ i. sum-list g n i +ℤ sym (+ℤ-idr (g n)) i) ∙ sym (sum-append (tabulate n g) (g n ∷ []))
 

@@ -7,3 +7,4 @@ pub mod Sets
 pub mod FloatSums
 pub mod Law
 pub mod Limits
+pub mod Constants

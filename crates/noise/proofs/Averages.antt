@@ -9,7 +9,7 @@ use lib.Dec.{leb, lit≤}
 use lib.IntN.{ℤ, pos, natAbs, _+ℤ_, _*ℤ_, +ℤ-idl}
 use lib.ListN.{length}
 use Rattle.laws.specs.Table.{tabulate}
-use Rattle.laws.specs.Sums.{sumTo}
+use Rattle.laws.specs.Sums.{total, sumTo}
 use Rattle.laws.proofs.Table.{tabulate-same}
 use Rattle.laws.proofs.Whole.{abs-mul-le, mul-sum, sum-mul}
 use Rattle.laws.proofs.Sums.{sum-ext, sum-add, sum-bound}
@@ -50,7 +50,7 @@ module _ (N : ℕ → ℕ → ℤ) where
   row a i = sumTo (λ j. N i j) (bit a + 1)
 
   rows-are : (a b : Bool) → (row a 0 +ℤ row a (bit b)) *ℤ pos (2 ^ (1 - bit a)) ≡ sumTo (row a) (bit b + 1) *ℤ pos (2 ^ (2 - (bit a + bit b)))
-  unfolding sumTo
+  unfolding total
   rows-are true true = ap (λ (z : ℤ). (z +ℤ row true 1) *ℤ pos 1) (sym (+ℤ-idl (row true 0)))
   rows-are false true = ap (λ (z : ℤ). (z +ℤ row false 1) *ℤ pos 2) (sym (+ℤ-idl (row false 0)))
   rows-are true false = doubled (row true 0) 1 ∙ ap (λ (z : ℤ). z *ℤ pos 2) (sym (+ℤ-idl (row true 0)))

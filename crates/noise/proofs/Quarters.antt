@@ -9,7 +9,7 @@ use lib.IntN.{ℤ, pos, natAbs, one, _+ℤ_, _*ℤ_, +ℤ-idl, *ℤ-one}
 use lib.ListN.{length}
 use mir.Syntax.{w16}
 use mir.Val.{ofZ, toZ}
-use Rattle.laws.specs.Sums.{sumTo}
+use Rattle.laws.specs.Sums.{total, sumTo}
 use Rattle.laws.proofs.Whole.{abs-add, abs-mul-le}
 use Rattle.laws.proofs.Is.{Is, self, again, sfits, plus, times}
 use Rattle.noise.specs.Lines.{at, AtMost}
@@ -34,7 +34,7 @@ twice-is x h = times (held x h) (self (sfits w16 (pos 2) (lit< tt))) (lt-of-le-o
 -- ---- what a column gets
 module _ (sums : List ℤ) (S : AtMost 8190 sums) where
   pub kept-is : (c : ℕ) → c < length sums → Is w16 (local (at sums c) *ℤ pos 2) (quartered 0 sums c)
-  unfolding quartered sumTo
+  unfolding quartered total
   kept-is c l =
       let k : c * 1 + 0 ≤ length sums - 1 = omega arith in
       let d : c * 1 + 0 ≡ c = omega arith in
@@ -43,7 +43,7 @@ module _ (sums : List ℤ) (S : AtMost 8190 sums) where
 
   halved-is : (c k n : ℕ) → min (c * 2 + 0) (length sums - 1) ≡ k → min (c * 2 + 1) (length sums - 1) ≡ n → k < length sums → n < length sums
       → Is w16 (local (at sums k) +ℤ local (at sums n)) (quartered 1 sums c)
-  unfolding quartered sumTo one
+  unfolding quartered total one
   halved-is c k n a b l m =
       subst (λ (z : ℤ). Is w16 (local (at sums k) +ℤ local (at sums n)) z)
       ((λ j. (sym (+ℤ-idl (at sums k)) ∙ ap (λ (i : ℕ). pos 0 +ℤ at sums i) (sym a)) j +ℤ at sums (sym b j)) ∙ sym (*ℤ-one _))

@@ -6,7 +6,7 @@ use lib.Dec.{leb}
 use lib.IntN.{ℤ, pos, _*ℤ_}
 use lib.Ieee.{Float, binary64, add, div, ofBits}
 use Rattle.laws.specs.Loop.{loop}
-use Rattle.laws.specs.Sums.{sumTo}
+use Rattle.laws.specs.Sums.{total, sumTo}
 use Rattle.laws.specs.Scaled.{plusZero}
 use Rattle.noise.specs.Noise.{noise, noiseF, place}
 
@@ -48,7 +48,7 @@ averageF l r c =
 
 -- exactly: four times the average
 unfoldable pub quarters : Luma → ℕ → ℕ → ℤ
-unfolding sumTo
+unfolding total
 quarters l r c =
     sumTo (λ i. sumTo (λ j. noise (l .source) (l .denoised) (lumaPlace l r c i j)) (subX (l .format) + 1)) (subY (l .format) + 1)
     *ℤ pos (2 ^ (2 - (subX (l .format) + subY (l .format))))

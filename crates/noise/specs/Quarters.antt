@@ -3,13 +3,13 @@ use mathlib.Core.List.{List}
 use Prim.Native.Nat.{ℕ, _+_, _-_, _*_, _/_, _^_, min}
 use lib.IntN.{ℤ, pos, _*ℤ_}
 use lib.ListN.{length}
-use Rattle.laws.specs.Sums.{sumTo}
+use Rattle.laws.specs.Sums.{total, sumTo}
 use Rattle.noise.specs.Average.{Luma}
 use Rattle.noise.specs.Lines.{at}
 
 -- at column c; sub is 1 where the format halves the columns, else 0
 unfoldable pub quartered : ℕ → List ℤ → ℕ → ℤ
-unfolding sumTo
+unfolding total
 quartered sub sums c = sumTo (λ j. at sums (min (c * 2 ^ sub + j) (length sums - 1))) (sub + 1) *ℤ pos (2 ^ (1 - sub))
 
 -- the number of chroma columns over w luma columns

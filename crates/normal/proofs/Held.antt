@@ -9,7 +9,7 @@ use lib.Arith.{digits-lt, digits-div, digits-mod}
 use lib.Dec.{lit<}
 use lib.IntN.{ℤ, pos, natAbs, _+ℤ_, +ℤ-idr}
 use lib.ListN.{length}
-use Rattle.laws.specs.Sums.{sumTo}
+use Rattle.laws.specs.Sums.{total, sumTo}
 use Rattle.laws.proofs.Sums.{sum-more, sum-bound}
 use Rattle.laws.proofs.Whole.{abs-add}
 use Rattle.laws.proofs.Order.{lt-or-ge}
@@ -34,7 +34,7 @@ module _ (f : Picture) (n side starts rows : ℕ) where
   k = side * side
 
   pub held-starts : {sums : List ℤ} → Zeros (starts * starts * k) sums → Held f n side starts rows 0 sums
-  unfolding pairSum sumTo
+  unfolding pairSum total
   held-starts Z =
       record {
         size = Z .size;

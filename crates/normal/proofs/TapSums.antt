@@ -8,7 +8,7 @@ use lib.Dec.{lit<, lit≤}
 use lib.IntN.{ℤ, pos, natAbs, _+ℤ_, _*ℤ_}
 use mir.Syntax.{w64}
 use mir.Val.{ofZ, toZ}
-use Rattle.laws.specs.Sums.{sumTo}
+use Rattle.laws.specs.Sums.{total, sumTo}
 use Rattle.laws.specs.Table.{tabulate}
 use Rattle.laws.proofs.Table.{tabulate-same}
 use Rattle.laws.proofs.Sums.{sum-ext, sum-more, sum-bound}
@@ -70,7 +70,7 @@ module _ (f q : Picture) (w lag : ℕ) where
   tapsAfter m i = sumTo (rowTap i) m
 
   pub taps-none : {taps : List ℤ} → Zeros (factors lag) taps → taps ≡ tabulate (factors lag) (tapsAfter 0)
-  unfolding sumTo
+  unfolding total
   taps-none {taps} Z = table-is taps (factors lag) (tapsAfter 0) (Z .size) (Z .zero)
 
   -- what a row adds
@@ -137,7 +137,7 @@ pub record TapsHeld (l : Luma) (cb denoised-cb cr denoised-cr : List ℕ) (g : G
 
 module _ {l : Luma} {cb denoised-cb cr denoised-cr : List ℕ} {g : Grid} {cw ch lag : ℕ} (P : Planes l cb denoised-cb cr denoised-cr g cw ch lag) where
   pub taps-held : {taps-cb taps-cr : List ℤ} → Zeros (factors lag) taps-cb → Zeros (factors lag) taps-cr → TapsHeld l cb denoised-cb cr denoised-cr g cw lag 0 (pos 0) taps-cb taps-cr
-  unfolding sumTo
+  unfolding total
   taps-held Y Z = record { squares-are = refl; cb-are = taps-none (noiseAt cb denoised-cb g) (quarters l) cw lag Y; cr-are = taps-none (noiseAt cr denoised-cr g) (quarters l) cw lag Z }
 
   pub taps-done : {squares : ℤ} {taps-cb taps-cr : List ℤ} (y : ℕ) → y ≡ ch - lag → TapsHeld l cb denoised-cb cr denoised-cr g cw lag y squares taps-cb taps-cr

@@ -4,7 +4,7 @@ use mathlib.Core.List.{List}
 use Prim.Native.Nat.{ℕ, _+_, _-_, _*_, _/_, _%_, _^_, _≤_, _<_}
 use lib.IntN.{ℤ, pos}
 use lib.ListN.{length}
-use Rattle.laws.specs.Sums.{sumTo}
+use Rattle.laws.specs.Sums.{total, sumTo}
 use Rattle.noise.specs.Lines.{at}
 use Rattle.noise.specs.Grids.{Rows}
 use Rattle.noise.specs.declared.rows.Grid.{Grid}
@@ -28,7 +28,7 @@ pub record RowTables (f : Picture) (n side starts r : ℕ) (tables : List ℤ) :
 
 -- over m pairs of rows, `apart` from one another, the first of which has row `above`
 unfoldable pub pairSum : Picture → ℕ → ℕ → ℕ → ℕ → ℕ → ℕ → ℤ
-unfolding sumTo
+unfolding total
 pairSum f n side apart above m c = sumTo (λ y. startSum (f (above + y)) (f (above + apart + y)) n (c / side) (c % side)) m
 
 -- the same over `rows` pairs, in blocks: for every two of `starts` start rows, the lower of which is one of them

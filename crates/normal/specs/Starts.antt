@@ -5,12 +5,12 @@ use mathlib.Core.List.{List}
 use Prim.Native.Nat.{ℕ, _+_, _*_, _/_, _%_, _^_, _≤_, _<_}
 use lib.IntN.{ℤ, natAbs, _*ℤ_}
 use lib.ListN.{length}
-use Rattle.laws.specs.Sums.{sumTo}
+use Rattle.laws.specs.Sums.{total, sumTo}
 use Rattle.noise.specs.Lines.{at}
 
 -- f a × g b + f (a + 1) × g (b + 1) + .., n products
 unfoldable pub startSum : (ℕ → ℤ) → (ℕ → ℤ) → ℕ → ℕ → ℕ → ℤ
-unfolding sumTo
+unfolding total
 startSum f g n a b = sumTo (λ x. f (a + x) *ℤ g (b + x)) n
 
 -- every number of a line is below c in size

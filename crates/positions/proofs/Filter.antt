@@ -7,7 +7,7 @@ use native.Mathlib.Omega.{arith}
 use borrow.Author.Tests.{lt-ltb}
 use lib.IntN.{ℤ, pos, _+ℤ_, _-ℤ_, _*ℤ_, +ℤ-idl, +ℤ-idr, +ℤ-assoc}
 use lib.ListN.{length, getD}
-use Rattle.laws.specs.Sums.{sumTo}
+use Rattle.laws.specs.Sums.{total, sumTo}
 use Rattle.laws.specs.Table.{tabulate}
 use Rattle.laws.proofs.Sums.{sum-ext}
 use Rattle.laws.proofs.Table.{length-tabulate, getD-tabulate}
@@ -47,7 +47,7 @@ module _ (lag y x : ℕ) (rows : lag ≤ y) (columns : lag ≤ x) where
         rw (filtered-append (n + 1) ps qs, e, +ℤ-assoc)
 
     filtered-table : (m : ℕ) (g : ℕ → Delta) → along 0 (tabulate m g) ≡ sumTo (λ i. coefficientOf (plus128 i) *ℤ grain (pos y +ℤ g i .0) (pos x +ℤ g i .1)) m
-    unfolding filtered sumTo
+    unfolding filtered total
     filtered-table zero g = refl
     filtered-table (suc m) g =
         filtered-append 0 (tabulate m g) (g m ∷ [])

@@ -5,11 +5,11 @@ use Prim.Native.Nat.{ℕ, _^_, _<_}
 use lib.ListN.{length, getD}
 use Rattle.laws.proofs.Table.{length-tabulate, getD-tabulate}
 use Rattle.float.specs.Steps.{sigma16Of}
-use Rattle.profile.specs.Sums.{sumN, sumOf}
+use Rattle.laws.specs.Sums.{sumN, sumOf}
 use Rattle.profile.specs.Shifted.{square}
 use Rattle.profile.specs.Bins.{binAt, inBin}
 use Rattle.profile.specs.Steps.{planeSquares, planeSigma16, totals, profile}
-use Rattle.profile.proofs.Sums.{sum-ext, sum-ones}
+use Rattle.laws.proofs.SumsN.{sum-ext, sum-ones}
 use Rattle.profile.proofs.Binning.{bins-add-up}
 use Rattle.profile.proofs.StepSums.{plane-sum, bin-lt, binned, totals-are}
 

@@ -10,7 +10,7 @@ use Rattle.laws.proofs.Table.{getD-tabulate}
 use Rattle.float.specs.Sigma.{Nearest16}
 use Rattle.float.specs.Steps.{sigma16Of}
 use Rattle.float.proofs.NearestSigma.{sigma16-nearest}
-use Rattle.profile.specs.Sums.{sumN}
+use Rattle.laws.specs.Sums.{sumN}
 use Rattle.profile.specs.Shifted.{square}
 use Rattle.profile.specs.Bins.{binAt, inBin, binCount, binSquares}
 use Rattle.profile.specs.Steps.{planeSquares, planeSigma16, totals, leastCount, sigmaOfBin, profile}

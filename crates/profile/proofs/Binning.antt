@@ -7,13 +7,13 @@ use native.Mathlib.Omega.{arith}
 use mathlib.Core.Logic.{⊎-elim}
 use lib.Dec.{eqb}
 use borrow.Author.Tests.{eq-eqb, ne-eqb}
-use Rattle.profile.specs.Sums.{sumN}
+use Rattle.laws.specs.Sums.{total, sumN}
 use Rattle.profile.specs.Bins.{inBin}
-use Rattle.profile.proofs.Sums.{sum-ext, sum-zero, sum-swap, sum-le, sum-bound}
+use Rattle.laws.proofs.SumsN.{sum-ext, sum-zero, sum-swap, sum-le, sum-bound}
 
 -- a value stands in its bin alone
 in-one : (b v m : ℕ) → b < m → sumN (λ j. cond (eqb b j) v 0) m ≡ v
-unfolding sumN
+unfolding total
 in-one b v zero h = absurd (omega arith)
 in-one b v (suc m) h =
     ⊎-elim

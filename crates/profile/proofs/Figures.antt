@@ -6,10 +6,10 @@ use native.Mathlib.Omega.{arith}
 use lib.ListN.{length, getD}
 use Rattle.laws.specs.Table.{tabulate}
 use Rattle.float.specs.Steps.{sigma16Of}
-use Rattle.profile.specs.Sums.{sumOf}
+use Rattle.laws.specs.Sums.{sumOf}
 use Rattle.profile.specs.Steps.{planeSquares, totals, leastCount, sigmaOfBin, profile}
 use Rattle.profile.specs.Parts.{Pair, Profiled}
-use Rattle.profile.proofs.Sums.{sum-bound}
+use Rattle.laws.proofs.SumsN.{sum-bound}
 use Rattle.profile.proofs.Lows.{Low}
 use Rattle.profile.proofs.PlaneParts.{low-to, square-small}
 use Rattle.profile.proofs.StepSums.{plane-sum}

@@ -10,11 +10,11 @@ use lib.IntN.{ℤ, pos, natAbs}
 use lib.ListN.{length, getD}
 use Rattle.laws.specs.Table.{tabulate}
 use Rattle.noise.specs.Lines.{at}
-use Rattle.profile.specs.Sums.{sumN}
+use Rattle.laws.specs.Sums.{sumN}
 use Rattle.profile.specs.Shifted.{squareOf}
 use Rattle.profile.specs.Bins.{inBin}
 use Rattle.profile.specs.Parts.{Small, Binned, lineCount, lineSquares}
-use Rattle.profile.proofs.Sums.{sum-ext}
+use Rattle.laws.proofs.SumsN.{sum-ext}
 use Rattle.profile.proofs.Squares.{square-le, line-small, line-sum}
 use Rattle.profile.proofs.Binning.{bin-le}
 

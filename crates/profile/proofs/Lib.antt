@@ -1,4 +1,3 @@
-pub mod Sums
 pub mod Tables
 pub mod Squares
 pub mod Range

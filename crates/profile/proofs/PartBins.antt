@@ -7,7 +7,7 @@ use lib.ListN.{length, getD}
 use Rattle.laws.specs.Table.{tabulate}
 use Rattle.laws.proofs.Table.{length-tabulate, getD-tabulate}
 use Rattle.noise.proofs.LineSums.{entry}
-use Rattle.profile.specs.Sums.{sumN}
+use Rattle.laws.specs.Sums.{sumN}
 use Rattle.profile.specs.Shifted.{shiftedNoise, squareOf}
 use Rattle.profile.specs.Bins.{binAt, binCount, binSquares}
 use Rattle.profile.specs.Parts.{Pair, Binned, lineCount, lineSquares}

@@ -7,7 +7,7 @@ use native.Mathlib.Omega.{arith}
 use lib.Dec.{eqb}
 use lib.ListN.{length, getD}
 use Rattle.laws.proofs.Table.{length-tabulate, getD-tabulate, tabulate-same}
-use Rattle.profile.specs.Sums.{sumN}
+use Rattle.laws.specs.Sums.{sumN}
 use Rattle.profile.specs.Shifted.{square}
 use Rattle.profile.specs.Bins.{binAt, inBin, binCount, binSquares}
 use Rattle.profile.specs.Parts.{Pair, Tables, increased}

@@ -11,11 +11,11 @@ use lib.ListN.{length, getD, take, drop, length-take, length-drop}
 use lib.Seq.{getD-take, getD-drop}
 use borrow.Author.Tests.{ltb-true, ltb-false}
 use Rattle.noise.specs.Shift.{shifted}
-use Rattle.profile.specs.Sums.{sumN}
+use Rattle.laws.specs.Sums.{sumN}
 use Rattle.profile.specs.Shifted.{shiftedNoise, squareOf, square}
 use Rattle.profile.specs.Bins.{binOf, binAt}
 use Rattle.profile.specs.Parts.{Pair, bothLow}
-use Rattle.profile.proofs.Sums.{sum-ext, sum-split}
+use Rattle.laws.proofs.SumsN.{sum-ext, sum-split}
 use Rattle.profile.proofs.Squares.{square-le}
 use Rattle.profile.proofs.Range.{shifted-range, range-small}
 use Rattle.profile.proofs.Lows.{Low, is-low, low-is}

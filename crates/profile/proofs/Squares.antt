@@ -7,17 +7,16 @@ use native.Mathlib.Omega.{arith}
 use lib.Dec.{lit≤, lit<}
 use lib.IntN.{ℤ, pos, negsuc, natAbs, _*ℤ_}
 use lib.ListN.{length}
-use Rattle.laws.specs.Sums.{sumTo}
+use Rattle.laws.specs.Sums.{sumTo, sumN}
 use Rattle.laws.specs.Table.{tabulate}
 use Rattle.laws.proofs.Table.{length-tabulate}
 use Rattle.laws.proofs.Sums.{sum-ext as sum-extZ}
 use Rattle.laws.proofs.Whole.{abs-mul-le}
 use Rattle.noise.specs.Lines.{at, product, Lines}
 use Rattle.noise.proofs.LineSums.{entry}
-use Rattle.profile.specs.Sums.{sumN}
 use Rattle.profile.specs.Shifted.{squareOf}
 use Rattle.profile.specs.Parts.{Small}
-use Rattle.profile.proofs.Sums.{sum-ext, sum-pos, sum-bound}
+use Rattle.laws.proofs.SumsN.{sum-ext, sum-pos, sum-bound}
 
 pub square-pos : (d : ℤ) → d *ℤ d ≡ pos (squareOf d)
 square-pos (pos n) = refl

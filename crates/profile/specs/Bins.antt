@@ -5,7 +5,7 @@ use mathlib.Core.List.{List}
 use Prim.Native.Nat.{ℕ, _-_, _/_, _^_, min}
 use lib.Dec.{eqb}
 use lib.ListN.{length, getD}
-use Rattle.profile.specs.Sums.{sumN}
+use Rattle.laws.specs.Sums.{total, sumN}
 use Rattle.profile.specs.Shifted.{square}
 
 -- `((usize::from(a) >> shift) >> (8 - bits)).min(last)`
@@ -21,10 +21,10 @@ abbrev pub inBin : (ℕ → ℕ) → ℕ → (ℕ → ℕ) → ℕ → ℕ
 inBin bin j g i = cond (eqb (bin i) j) (g i) 0
 
 unfoldable pub binCount : ℕ → ℕ → List ℕ → ℕ → ℕ
-unfolding sumN
+unfolding total
 binCount bits shift source j = sumN (inBin (binAt bits shift source) j (λ i. 1)) (length source)
 
 unfoldable pub binSquares : ℕ → ℕ → List ℕ → List ℕ → ℕ → ℕ
-unfolding sumN
+unfolding total
 binSquares bits shift source denoised j =
     sumN (inBin (binAt bits shift source) j (square shift source denoised)) (length source)

@@ -1,4 +1,3 @@
-pub mod Sums
 pub mod Shifted
 pub mod Bins
 pub mod Steps

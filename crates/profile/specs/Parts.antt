@@ -8,7 +8,7 @@ use lib.ListN.{length, getD, replicate}
 use Rattle.laws.specs.Table.{tabulate}
 use Rattle.frame.specs.Questions.{low}
 use Rattle.noise.specs.Lines.{at}
-use Rattle.profile.specs.Sums.{sumN}
+use Rattle.laws.specs.Sums.{total, sumN}
 use Rattle.profile.specs.Shifted.{squareOf}
 use Rattle.profile.specs.Steps.{Profile}
 use Rattle.profile.specs.Bins.{inBin}
@@ -39,11 +39,11 @@ pub record Binned (line : List ℤ) (bins : List ℕ) : Type 0 where
 
 -- over the places of bin j: how many, and the squares of the line
 unfoldable pub lineCount : List ℕ → ℕ → ℕ
-unfolding sumN
+unfolding total
 lineCount bins j = sumN (inBin (λ i. getD bins i 0) j (λ i. 1)) (length bins)
 
 unfoldable pub lineSquares : List ℤ → List ℕ → ℕ → ℕ
-unfolding sumN
+unfolding total
 lineSquares line bins j = sumN (inBin (λ i. getD bins i 0) j (λ i. squareOf (at line i))) (length bins)
 
 -- tables of 2 ^ bits entries each, which a u64 holds once they are increased

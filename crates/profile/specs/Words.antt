@@ -7,7 +7,7 @@ use lib.ListN.{length, getD}
 use lib.Signed.{_≤ℤ_}
 use Rattle.frame.specs.declared.Shape.{Shape}
 use Rattle.float.specs.Sigma.{Nearest16}
-use Rattle.profile.specs.Sums.{sumN, sumOf}
+use Rattle.laws.specs.Sums.{sumN, sumOf}
 use Rattle.profile.specs.Shifted.{shiftedNoise, square}
 use Rattle.profile.specs.Bins.{binCount, binSquares}
 use Rattle.profile.specs.Steps.{Profile}

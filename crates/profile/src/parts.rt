@@ -4,7 +4,7 @@ ghost use Prim.Native.Nat.{_-_, min};
 ghost use lib.ListN.{length};
 ghost use Rattle.laws.specs.Table.{tabulate};
 ghost use Rattle.noise.specs.Lines.{at};
-ghost use Rattle.profile.specs.Sums.{sumN};
+ghost use Rattle.laws.specs.Sums.{sumN};
 ghost use Rattle.profile.specs.Shifted.{shiftedNoise, squareOf, square};
 ghost use Rattle.profile.specs.Parts.{Pair, Small, LowThen};
 

@@ -5,7 +5,7 @@ ghost use mathlib.Core.Path.{_≡_};
 ghost use Prim.Native.Nat.{_-_, _^_, _<_};
 ghost use lib.ListN.{length, getD};
 ghost use Rattle.laws.specs.Table.{tabulate};
-ghost use Rattle.profile.specs.Sums.{sumOf};
+ghost use Rattle.laws.specs.Sums.{sumOf};
 ghost use Rattle.profile.specs.Steps.{totals, profile, leastCount, sigmaOfBin};
 ghost use Rattle.profile.specs.Parts.{Pair, Blank, Profiled, LowThen};
 

@@ -6,7 +6,7 @@ use borrow.Author.Needs.{needs}
 use lib.IntN.{_+ℤ_, _*ℤ_}
 use mir.Syntax.{w32}
 use mir.Val.{ofZ, toZ}
-use Rattle.laws.specs.Sums.{sumTo, span}
+use Rattle.laws.specs.Sums.{total, sumTo, span}
 use Rattle.laws.proofs.Is.{Is, again, fits}
 use Rattle.noise.specs.Lines.{at, product}
 use Rattle.noise.proofs.BlockSums.{wide32, wide, product-is, block-turn}
@@ -20,7 +20,7 @@ abbrev μ-loop : tie.MeasureT-loop
 μ-loop p q from n sum₀ i₀ sum i = n - i
 
 loop-holds : tie.Need-loop-holds Inv-loop μ-loop
-unfolding sumTo
+unfolding total
 loop-holds c = (omega arith, refl)
 
 cast-x : tie.Need-cast-x Inv-loop μ-loop

@@ -7,7 +7,7 @@ use lib.IntN.{_+ℤ_}
 use lib.ListN.{length}
 use mir.Syntax.{w32, w64}
 use mir.Val.{ofZ, toZ}
-use Rattle.laws.specs.Sums.{sumTo}
+use Rattle.laws.specs.Sums.{total, sumTo}
 use Rattle.laws.proofs.Is.{Is, again, fits}
 use Rattle.noise.specs.Lines.{at, product}
 use Rattle.noise.proofs.BlockSums.{wide64, fewer, line-turn}
@@ -21,7 +21,7 @@ abbrev μ-loop : tie.MeasureT-loop
 μ-loop p q size n sum₀ from₀ sum from = n - from
 
 loop-holds : tie.Need-loop-holds Inv-loop μ-loop
-unfolding sumTo
+unfolding total
 loop-holds c = (refl, omega arith, refl)
 
 block-requires : tie.Need-block-requires Inv-loop μ-loop

@@ -6,7 +6,7 @@ use borrow.Author.Needs.{needs}
 use lib.IntN.{_+ℤ_}
 use mir.Syntax.{w32, w64}
 use mir.Val.{ofZ, toZ}
-use Rattle.laws.specs.Sums.{sumTo}
+use Rattle.laws.specs.Sums.{total, sumTo}
 use Rattle.laws.proofs.Is.{Is, again, fits}
 use Rattle.noise.specs.AverageSums.{along}
 use Rattle.noise.proofs.BlockSums.{wide64}
@@ -21,7 +21,7 @@ abbrev μ-loop : tie.MeasureT-loop
 μ-loop averages src den w h y sum₀ from₀ sum from = w - from
 
 loop-holds : tie.Need-loop-holds Inv-loop μ-loop
-unfolding sumTo
+unfolding total
 loop-holds c = (omega arith, refl)
 
 noise-block-requires : tie.Need-noise-block-requires Inv-loop μ-loop

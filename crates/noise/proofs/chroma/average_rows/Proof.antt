@@ -10,7 +10,7 @@ use lib.IntN.{_+ℤ_}
 use lib.ListN.{length}
 use mir.Syntax.{w64}
 use mir.Val.{Fits, ofZ, toZ}
-use Rattle.laws.specs.Sums.{sumTo}
+use Rattle.laws.specs.Sums.{total, sumTo}
 use Rattle.laws.proofs.Is.{Is, again, fits}
 use Rattle.noise.specs.Average.{Luma}
 use Rattle.noise.specs.Quarters.{luma}
@@ -31,7 +31,7 @@ abbrev μ-loop : tie.MeasureT-loop
 μ-loop src den w h format cb dcb cr dcr cw ch sums₀ averages₀ squares₀ blue₀ red₀ r₀ sums averages squares blue red r = ch - r
 
 loop-holds : tie.Need-loop-holds Inv-loop μ-loop
-unfolding sumTo
+unfolding total
 loop-holds c = let P = c .before .before .before .before .before .before .pre in (omega arith, P .2, P .3, refl, refl, refl)
 
 average-row-requires : tie.Need-average-row-requires Inv-loop μ-loop

@@ -6,7 +6,7 @@ use borrow.Author.Needs.{needs}
 use lib.IntN.{_+ℤ_, _*ℤ_}
 use mir.Syntax.{w32}
 use mir.Val.{ofZ, toZ}
-use Rattle.laws.specs.Sums.{sumTo, span}
+use Rattle.laws.specs.Sums.{total, sumTo, span}
 use Rattle.laws.proofs.Is.{Is, again, fits}
 use Rattle.noise.specs.Lines.{at}
 use Rattle.noise.specs.AverageSums.{along}
@@ -22,7 +22,7 @@ abbrev μ-loop : tie.MeasureT-loop
 μ-loop averages src den w h y from n sum₀ i₀ sum i = n - i
 
 loop-holds : tie.Need-loop-holds Inv-loop μ-loop
-unfolding sumTo
+unfolding total
 loop-holds c = (omega arith, refl)
 
 add-k : tie.Need-add-k Inv-loop μ-loop

@@ -10,7 +10,7 @@ use lib.IntN.{ℤ, _+ℤ_, _*ℤ_}
 use lib.ListN.{length}
 use mir.Syntax.{w64}
 use mir.Val.{ofZ, toZ}
-use Rattle.laws.specs.Sums.{sumTo}
+use Rattle.laws.specs.Sums.{total, sumTo}
 use Rattle.laws.proofs.Is.{Is, again, fits}
 use Rattle.noise.specs.Seen.{noiseAt}
 use Rattle.frame.specs.declared.view.View.{View}
@@ -33,7 +33,7 @@ abbrev μ-loop : tie.MeasureT-loop
 μ-loop src0 den0 src1 den1 view p₀ q₀ second₀ cross₀ r₀ r-end p q second cross r = view .height - r
 
 loop-holds : tie.Need-loop-holds Inv-loop μ-loop
-unfolding sumTo
+unfolding total
 loop-holds c = (omega arith, search needs, search needs, refl, refl)
 
 mul-start : tie.Need-mul-start Inv-loop μ-loop

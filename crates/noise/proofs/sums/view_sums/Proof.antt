@@ -11,7 +11,7 @@ use lib.ListN.{length}
 use mir.Syntax.{w64}
 use mir.Val.{ofZ, toZ}
 use Rattle.laws.specs.Limits.{sideLimit}
-use Rattle.laws.specs.Sums.{sumTo}
+use Rattle.laws.specs.Sums.{total, sumTo}
 use Rattle.laws.proofs.Is.{Is, again, fits}
 use Rattle.noise.specs.Seen.{noiseAt, squared}
 use Rattle.frame.specs.declared.view.View.{View}
@@ -49,7 +49,7 @@ abbrev μ-loop : tie.MeasureT-loop
 μ-loop src den view lag shift p₀ q₀ squares₀ energy₀ lagged₀ r₀ r-end p q squares energy lagged r = view .height - r
 
 loop-holds : tie.Need-loop-holds Inv-loop μ-loop
-unfolding sumTo
+unfolding total
 loop-holds c = (omega arith, search needs, search needs, refl, refl, refl)
 
 mul-start : tie.Need-mul-start Inv-loop μ-loop

@@ -4,10 +4,10 @@ use Prim.Native.Nat.{_+_, _-_, _≤_}
 use native.Mathlib.Omega.{arith}
 use borrow.Author.Needs.{needs}
 use lib.ListN.{length, getD}
-use Rattle.profile.specs.Sums.{sumN}
+use Rattle.laws.specs.Sums.{total, sumN}
 use Rattle.profile.specs.Bins.{inBin}
 use Rattle.profile.specs.Parts.{lineCount}
-use Rattle.profile.proofs.Sums.{sum-more}
+use Rattle.laws.proofs.SumsN.{sum-more}
 use Rattle.profile.proofs.Binning.{count-le}
 use Rattle.profile.proofs.bins.bin_count.Statement.{statement}
 use Rattle.profile.proofs.bins.bin_count.Tie as tie
@@ -19,14 +19,14 @@ abbrev μ-loop : tie.MeasureT-loop
 μ-loop bins j count₀ i₀ count i = length bins - i
 
 loop-holds : tie.Need-loop-holds Inv-loop μ-loop
-unfolding sumN
+unfolding total
 loop-holds c = (omega arith, refl)
 
 -- the count with a place more
 more : (c : tie.After-hit Inv-loop μ-loop) → let A = c .before .before .before .before .before .args in
     let H = c .before .before .before .loop in
     H .count + c .hit .result ≡ sumN (inBin (λ k. getD (A .bins .now) k 0) (A .j) (λ k. 1)) (H .i + 1)
-more c = (λ j. c .before .before .before .loop .inv .1 j + c .hit .ensures j) ∙ sym (sum-more _ _)
+more c = (λ j. c .before .before .before .loop .inv .1 j + c .hit .ensures j) ∙ sum-more _ _
 
 add-count : tie.Need-add-count Inv-loop μ-loop
 add-count c =

@@ -7,7 +7,7 @@ use mir.Syntax.{w64}
 use mir.Val.{ofZ, toZ}
 use Rattle.laws.proofs.Is.{again, self}
 use Rattle.noise.specs.Lines.{at}
-use Rattle.profile.specs.Sums.{sumN}
+use Rattle.laws.specs.Sums.{sumN}
 use Rattle.profile.specs.Shifted.{squareOf}
 use Rattle.profile.proofs.Squares.{square-lines, dot-squares, squares-le}
 use Rattle.profile.proofs.parts.line_squares.Statement.{statement}

@@ -6,9 +6,9 @@ use native.Mathlib.Omega.{arith}
 use borrow.Author.Needs.{needs}
 use borrow.Author.Tests.{not-true, not-false}
 use lib.ListN.{length}
-use Rattle.profile.specs.Sums.{sumN}
+use Rattle.laws.specs.Sums.{total, sumN}
 use Rattle.profile.specs.Shifted.{square}
-use Rattle.profile.proofs.Sums.{sum-bound}
+use Rattle.laws.proofs.SumsN.{sum-bound}
 use Rattle.profile.proofs.Lows.{is-low}
 use Rattle.profile.proofs.PlaneParts.{LowTo, low-none, low-more, low-all, not-low, part-pair, part-more, square-part, square-small}
 use Rattle.profile.proofs.StepSums.{plane-sum}
@@ -23,7 +23,7 @@ abbrev μ-loop : tie.MeasureT-loop
 μ-loop src den depth n sum₀ from₀ sum from = n - from
 
 loop-holds : tie.Need-loop-holds Inv-loop μ-loop
-unfolding sumN
+unfolding total
 loop-holds c = (refl, omega arith, low-none _ _ _, refl)
 
 -- the next part

@@ -4,8 +4,8 @@ use Prim.Native.Nat.{ℕ, _+_, _-_, _≤_}
 use native.Mathlib.Omega.{arith}
 use borrow.Author.Needs.{needs}
 use lib.ListN.{length, getD}
-use Rattle.profile.specs.Sums.{sumN, sumOf}
-use Rattle.profile.proofs.Sums.{sum-more, sum-mono}
+use Rattle.laws.specs.Sums.{total, sumN, sumOf}
+use Rattle.laws.proofs.SumsN.{sum-more, sum-mono}
 use Rattle.profile.proofs.profiles.sum_of.Statement.{statement}
 use Rattle.profile.proofs.profiles.sum_of.Tie as tie
 
@@ -16,12 +16,12 @@ abbrev μ-loop : tie.MeasureT-loop
 μ-loop xs sum₀ i₀ sum i = length xs - i
 
 loop-holds : tie.Need-loop-holds Inv-loop μ-loop
-unfolding sumN
+unfolding total
 loop-holds c = (omega arith, refl)
 
 more : (c : tie.After-shared-slice-known Inv-loop μ-loop) → let xs = c .before .before .before .args .xs .now in
     c .before .before .loop .sum + getD xs (c .before .before .loop .i) 0 ≡ sumN (λ k. getD xs k 0) (c .before .before .loop .i + 1)
-more c = ap (λ (s : ℕ). s + getD (c .before .before .before .args .xs .now) (c .before .before .loop .i) 0) (c .before .before .loop .inv .1) ∙ sym (sum-more _ _)
+more c = ap (λ (s : ℕ). s + getD (c .before .before .before .args .xs .now) (c .before .before .loop .i) 0) (c .before .before .loop .inv .1) ∙ sum-more _ _
 
 add-sum : tie.Need-add-sum Inv-loop μ-loop
 unfolding sumOf
