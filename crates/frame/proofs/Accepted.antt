@@ -79,35 +79,35 @@ frame-numbers s luma chroma e =
     let b = and-eq-true-iff (each (samplesOf s Y) luma) (each (samplesOf s CbCr) chroma) .0 (passed (q ∷ []) refl (p .1) .0) in
     (is-known s (p .0), are-each (samplesOf s Y) luma (b .0), are-each (samplesOf s CbCr) chroma (b .1))
 
-pub record FrameCall (s : Shape) (y cb cr dy dcb dcr : List ℕ) : Type 0 where
+pub record FrameCall (s : Shape) (y cb cr y-denoised cb-denoised cr-denoised : List ℕ) : Type 0 where
   pub shape : Known s
   pub source : Frame s y cb cr
-  pub copy : Frame s dy dcb dcr
+  pub copy : Frame s y-denoised cb-denoised cr-denoised
 
-pub frame-call : (s : Shape) (y cb cr dy dcb dcr : List ℕ) → frameRefusal s y cb cr dy dcb dcr ≡ 0 → FrameCall s y cb cr dy dcb dcr
+pub frame-call : (s : Shape) (y cb cr y-denoised cb-denoised cr-denoised : List ℕ) → frameRefusal s y cb cr y-denoised cb-denoised cr-denoised ≡ 0 → FrameCall s y cb cr y-denoised cb-denoised cr-denoised
 unfolding frameRefusal copyQuestions frameNumbers shapeNumbers
-frame-call s y cb cr dy dcb dcr e =
-    let luma = length y ∷ length dy ∷ [] in
-    let chroma = length cb ∷ length cr ∷ length dcb ∷ length dcr ∷ [] in
-    let f = sampled (frameNumbers s luma chroma) (s .depth) (y ∷ cb ∷ cr ∷ dy ∷ dcb ∷ dcr ∷ []) refl e in
+frame-call s y cb cr y-denoised cb-denoised cr-denoised e =
+    let luma = length y ∷ length y-denoised ∷ [] in
+    let chroma = length cb ∷ length cr ∷ length cb-denoised ∷ length cr-denoised ∷ [] in
+    let f = sampled (frameNumbers s luma chroma) (s .depth) (y ∷ cb ∷ cr ∷ y-denoised ∷ cb-denoised ∷ cr-denoised ∷ []) refl e in
     let k = frame-numbers s luma chroma (f .0) in
     let d = k .0 .depth .most in
     record {
       shape = k .0;
       source = is-frame s y cb cr d (k .1 .0) (k .2 .0) (k .2 .1 .0) (f .1 .0, (f .1 .1 .0, (f .1 .1 .1 .0, tt)));
-      copy = is-frame s dy dcb dcr d (k .1 .1 .0) (k .2 .1 .1 .0) (k .2 .1 .1 .1 .0) (f .1 .1 .1 .1);
+      copy = is-frame s y-denoised cb-denoised cr-denoised d (k .1 .1 .0) (k .2 .1 .1 .0) (k .2 .1 .1 .1 .0) (f .1 .1 .1 .1);
     }
 
-pub record FitCall (s : Shape) (y cb cr dy dcb dcr : List ℕ) (lag : ℕ) : Type 0 where
-  pub frame : FrameCall s y cb cr dy dcb dcr
+pub record FitCall (s : Shape) (y cb cr y-denoised cb-denoised cr-denoised : List ℕ) (lag : ℕ) : Type 0 where
+  pub frame : FrameCall s y cb cr y-denoised cb-denoised cr-denoised
   pub lag-known : lag ≤ 3
 
-pub fit-call : (s : Shape) (y cb cr dy dcb dcr : List ℕ) (lag : ℕ) → fitRefusal s y cb cr dy dcb dcr lag ≡ 0 → FitCall s y cb cr dy dcb dcr lag
+pub fit-call : (s : Shape) (y cb cr y-denoised cb-denoised cr-denoised : List ℕ) (lag : ℕ) → fitRefusal s y cb cr y-denoised cb-denoised cr-denoised lag ≡ 0 → FitCall s y cb cr y-denoised cb-denoised cr-denoised lag
 unfolding fitRefusal frameRefusal copyQuestions frameNumbers shapeNumbers
-fit-call s y cb cr dy dcb dcr lag e =
-    let p = parts (copyQuestions s y cb cr dy dcb dcr) (lagKnown lag ∷ []) refl e in
+fit-call s y cb cr y-denoised cb-denoised cr-denoised lag e =
+    let p = parts (copyQuestions s y cb cr y-denoised cb-denoised cr-denoised) (lagKnown lag ∷ []) refl e in
     record {
-      frame = frame-call s y cb cr dy dcb dcr (p .0);
+      frame = frame-call s y cb cr y-denoised cb-denoised cr-denoised (p .0);
       lag-known = leb-true lag 3 (passed (lagKnown lag ∷ []) refl (p .1) .0);
     }
 

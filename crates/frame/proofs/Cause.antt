@@ -4,14 +4,7 @@ use mathlib.Core.Bool.{true, false}
 use mathlib.Core.List.{List, [], _∷_, _++_}
 use Prim.Native.Nat.{ℕ}
 use Rattle.frame.specs.Questions.{Question, firstNo}
-use Rattle.frame.proofs.Refusal.{Passed}
-
--- the number is that of a question answered no, and those before it are answered yes
-pub record FirstNo (qs : List Question) (n : ℕ) : Type 0 where
-  pub before : List Question
-  pub after : List Question
-  pub split : qs ≡ before ++ ((false, n) ∷ after)
-  pub passes : Passed before
+use Rattle.frame.specs.Cause.{Passed, FirstNo}
 
 pub cause : (qs : List Question) → (firstNo qs ≡ 0 → ⊥) → FirstNo qs (firstNo qs)
 cause [] h = absurd (h refl)

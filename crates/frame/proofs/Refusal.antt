@@ -5,6 +5,7 @@ use mathlib.Core.List.{List, [], _∷_, _++_}
 use Prim.Native.Nat.{ℕ, zero, suc}
 use native.Mathlib.Omega.{arith}
 use Rattle.frame.specs.Questions.{Question, firstNo, accepted}
+use Rattle.frame.specs.Cause.{Passed}
 
 -- a refused call changes nothing, an accepted one brings the new
 module _ {ℓ} {A : Type ℓ} where
@@ -44,11 +45,6 @@ module _ (qs : List Question) (h : numbered qs ≡ true) {n : ℕ} (e : n ≡ fi
 -- two answers together
 pub and-is : {r b r′ b′ : Bool} → r ≡ b → r′ ≡ b′ → (r && r′) ≡ (b && b′)
 and-is e e′ = rw (e, e′)
-
--- all answers are yes
-abbrev pub Passed : List Question → Type 0
-Passed [] = Unit {0}
-Passed ((b, n) ∷ qs) = (b ≡ true) × Passed qs
 
 -- ---- an answer of 0
 

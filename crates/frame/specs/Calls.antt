@@ -52,15 +52,15 @@ pairRefusal w h depth a b =
 
 -- a frame and its denoised copy: profile and chroma correlation; a fit is asked about its lag as well
 unfoldable pub copyQuestions : Shape → List ℕ → List ℕ → List ℕ → List ℕ → List ℕ → List ℕ → List Question
-copyQuestions s y cb cr dy dcb dcr =
-    frameNumbers s (map length (y ∷ dy ∷ [])) (map length (cb ∷ cr ∷ dcb ∷ dcr ∷ [])) ++
-    (samplesLow (s .depth) (y ∷ cb ∷ cr ∷ dy ∷ dcb ∷ dcr ∷ []) ∷ [])
+copyQuestions s y cb cr y-denoised cb-denoised cr-denoised =
+    frameNumbers s (map length (y ∷ y-denoised ∷ [])) (map length (cb ∷ cr ∷ cb-denoised ∷ cr-denoised ∷ [])) ++
+    (samplesLow (s .depth) (y ∷ cb ∷ cr ∷ y-denoised ∷ cb-denoised ∷ cr-denoised ∷ []) ∷ [])
 
 unfoldable pub frameRefusal : Shape → List ℕ → List ℕ → List ℕ → List ℕ → List ℕ → List ℕ → ℕ
-frameRefusal s y cb cr dy dcb dcr = firstNo (copyQuestions s y cb cr dy dcb dcr)
+frameRefusal s y cb cr y-denoised cb-denoised cr-denoised = firstNo (copyQuestions s y cb cr y-denoised cb-denoised cr-denoised)
 
 unfoldable pub fitRefusal : Shape → List ℕ → List ℕ → List ℕ → List ℕ → List ℕ → List ℕ → ℕ → ℕ
-fitRefusal s y cb cr dy dcb dcr lag = firstNo (copyQuestions s y cb cr dy dcb dcr ++ (lagKnown lag ∷ []))
+fitRefusal s y cb cr y-denoised cb-denoised cr-denoised lag = firstNo (copyQuestions s y cb cr y-denoised cb-denoised cr-denoised ++ (lagKnown lag ∷ []))
 
 -- a gate: one component of two frames and of their denoised copies
 unfoldable pub gateRefusal : Shape → Component → List ℕ → List ℕ → List ℕ → List ℕ → ℕ

@@ -1,6 +1,8 @@
+-- what the results are, and what they rest on
 pub mod Size
 pub mod Text
 pub mod View
 pub mod Planes
 pub mod Questions
 pub mod Calls
+pub mod Cause

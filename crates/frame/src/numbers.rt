@@ -52,24 +52,24 @@ fn samples(s: Shape, component: Component) -> usize
     s.width_of(component) * s.height_of(component)
 }
 
-// Questions 1 to 5, of a frame and a second one: their luma and chroma planes.
+// Questions 1 to 5, of a frame and its twin: the denoised copy, or the destinations.
 pub fn frame_numbers(
     s: Shape,
     y: usize,
     cb: usize,
     cr: usize,
-    y2: usize,
-    cb2: usize,
-    cr2: usize,
+    ytwin: usize,
+    cbtwin: usize,
+    crtwin: usize,
 ) -> u32
-    ensures { λ r. ⌜ r ≡ firstNo (frameNumbers s (y ∷ y2 ∷ []) (cb ∷ cr ∷ cb2 ∷ cr2 ∷ [])) ⌝ }
+    ensures { λ r. ⌜ r ≡ firstNo (frameNumbers s (y ∷ ytwin ∷ []) (cb ∷ cr ∷ cbtwin ∷ crtwin ∷ [])) ⌝ }
 {
     let n = shape_numbers(s);
     if n != 0 {
         return n;
     }
-    let luma = questions::both_are(samples(s, Component::Y), y, y2);
-    let chroma = questions::four_are(samples(s, Component::CbCr), cb, cr, cb2, cr2);
+    let luma = questions::both_are(samples(s, Component::Y), y, ytwin);
+    let chroma = questions::four_are(samples(s, Component::CbCr), cb, cr, cbtwin, crtwin);
     ask(n, luma & chroma, 5)
 }
 

@@ -24,27 +24,28 @@ pub fn frame_refusal(
     y: &[u16],
     cb: &[u16],
     cr: &[u16],
-    dy: &[u16],
-    dcb: &[u16],
-    dcr: &[u16],
+    yden: &[u16],
+    cbden: &[u16],
+    crden: &[u16],
 ) -> u32
-    ensures { λ r. ⌜ r ≡ frameRefusal s (now (y .entry)) (now (cb .entry)) (now (cr .entry)) (now (dy .entry)) (now (dcb .entry)) (now (dcr .entry)) ⌝ }
+    ensures { λ r. ⌜ r ≡ frameRefusal s (now (y .entry)) (now (cb .entry)) (now (cr .entry)) (now (yden .entry)) (now (cbden .entry)) (now (crden .entry)) ⌝ }
 {
     let n = numbers::frame_numbers(
         s,
         y.len(),
         cb.len(),
         cr.len(),
-        dy.len(),
-        dcb.len(),
-        dcr.len(),
+        yden.len(),
+        cbden.len(),
+        crden.len(),
     );
     if n != 0 {
         return n;
     }
     ask(
         n,
-        questions::frame_low(s.depth, y, cb, cr) & questions::frame_low(s.depth, dy, dcb, dcr),
+        questions::frame_low(s.depth, y, cb, cr)
+            & questions::frame_low(s.depth, yden, cbden, crden),
         6,
     )
 }
@@ -55,14 +56,14 @@ pub fn fit_refusal(
     y: &[u16],
     cb: &[u16],
     cr: &[u16],
-    dy: &[u16],
-    dcb: &[u16],
-    dcr: &[u16],
+    yden: &[u16],
+    cbden: &[u16],
+    crden: &[u16],
     lag: usize,
 ) -> u32
-    ensures { λ r. ⌜ r ≡ fitRefusal s (now (y .entry)) (now (cb .entry)) (now (cr .entry)) (now (dy .entry)) (now (dcb .entry)) (now (dcr .entry)) lag ⌝ }
+    ensures { λ r. ⌜ r ≡ fitRefusal s (now (y .entry)) (now (cb .entry)) (now (cr .entry)) (now (yden .entry)) (now (cbden .entry)) (now (crden .entry)) lag ⌝ }
 {
-    let n = frame_refusal(s, y, cb, cr, dy, dcb, dcr);
+    let n = frame_refusal(s, y, cb, cr, yden, cbden, crden);
     if n != 0 {
         return n;
     }
@@ -93,13 +94,13 @@ pub fn denoise_frame_refusal(
     y: &[u16],
     cb: &[u16],
     cr: &[u16],
-    outy: usize,
-    outcb: usize,
-    outcr: usize,
+    yout: usize,
+    cbout: usize,
+    crout: usize,
 ) -> u32
-    ensures { λ r. ⌜ r ≡ denoiseFrameRefusal s (now (y .entry)) (now (cb .entry)) (now (cr .entry)) outy outcb outcr ⌝ }
+    ensures { λ r. ⌜ r ≡ denoiseFrameRefusal s (now (y .entry)) (now (cb .entry)) (now (cr .entry)) yout cbout crout ⌝ }
 {
-    let n = numbers::frame_numbers(s, y.len(), cb.len(), cr.len(), outy, outcb, outcr);
+    let n = numbers::frame_numbers(s, y.len(), cb.len(), cr.len(), yout, cbout, crout);
     if n != 0 {
         return n;
     }

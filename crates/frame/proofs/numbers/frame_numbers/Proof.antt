@@ -14,7 +14,7 @@ unfolding frameNumbers shapeNumbers
 returns c =
     let a = c .before .before .args in
     stopped (shapeNumbers (a .s)) refl (c .before .shape-numbers .ensures)
-    (frameFilled (a .s) (a .y ∷ a .y2 ∷ []) (a .cb ∷ a .cr ∷ a .cb2 ∷ a .cr2 ∷ []) ∷ []) (c .if1 .taken)
+    (frameFilled (a .s) (a .y ∷ a .ytwin ∷ []) (a .cb ∷ a .cr ∷ a .cbtwin ∷ a .crtwin ∷ []) ∷ []) (c .if1 .taken)
 
 -- past the questions about the shape
 known : (k : tie.Else1) → Known (k .before .before .args .s)
@@ -31,7 +31,7 @@ unfolding frameNumbers shapeNumbers
 returns-2 c =
     let a = c .before .before .before .before .before .before .before .args in
     asked (shapeNumbers (a .s)) refl (c .before .before .before .before .before .before .shape-numbers .ensures)
-    (frameFilled (a .s) (a .y ∷ a .y2 ∷ []) (a .cb ∷ a .cr ∷ a .cb2 ∷ a .cr2 ∷ [])) (c .ask .ensures)
+    (frameFilled (a .s) (a .y ∷ a .ytwin ∷ []) (a .cb ∷ a .cr ∷ a .cbtwin ∷ a .crtwin ∷ [])) (c .ask .ensures)
     (and-is
     (rw (c .before .before .before .before .samples .ensures) at (c .before .before .before .both-are .ensures))
     (rw (c .before .before .samples2 .ensures) at (c .before .four-are .ensures)))

@@ -14,8 +14,8 @@ returns : tie.Need-returns
 unfolding denoiseFrameRefusal frameNumbers shapeNumbers
 returns c =
     let a = c .before .before .before .before .before .args in
-    let luma = length (now (a .y)) ∷ a .outy ∷ [] in
-    let chroma = length (now (a .cb)) ∷ length (now (a .cr)) ∷ a .outcb ∷ a .outcr ∷ [] in
+    let luma = length (now (a .y)) ∷ a .yout ∷ [] in
+    let chroma = length (now (a .cb)) ∷ length (now (a .cr)) ∷ a .cbout ∷ a .crout ∷ [] in
     let source = now (a .y) ∷ now (a .cb) ∷ now (a .cr) ∷ [] in
     stopped (frameNumbers (a .s) luma chroma) refl (c .before .frame-numbers .ensures)
     (samplesLow (a .s .depth) (source) ∷ []) (c .if1 .taken)
@@ -24,8 +24,8 @@ returns-2 : tie.Need-returns-2
 unfolding denoiseFrameRefusal frameNumbers shapeNumbers
 returns-2 c =
     let a = c .before .before .before .before .before .before .before .args in
-    let luma = length (now (a .y)) ∷ a .outy ∷ [] in
-    let chroma = length (now (a .cb)) ∷ length (now (a .cr)) ∷ a .outcb ∷ a .outcr ∷ [] in
+    let luma = length (now (a .y)) ∷ a .yout ∷ [] in
+    let chroma = length (now (a .cb)) ∷ length (now (a .cr)) ∷ a .cbout ∷ a .crout ∷ [] in
     let source = now (a .y) ∷ now (a .cb) ∷ now (a .cr) ∷ [] in
     asked (frameNumbers (a .s) luma chroma) refl (c .before .before .before .frame-numbers .ensures)
     (samplesLow (a .s .depth) (source)) (c .ask .ensures) (c .before .frame-low .ensures)

@@ -13,14 +13,14 @@ returns : tie.Need-returns
 unfolding fitRefusal frameRefusal copyQuestions frameNumbers shapeNumbers
 returns c =
     let a = c .before .before .before .before .before .before .before .before .args in
-    let qs = copyQuestions (a .s) (now (a .y)) (now (a .cb)) (now (a .cr)) (now (a .dy)) (now (a .dcb)) (now (a .dcr)) in
+    let qs = copyQuestions (a .s) (now (a .y)) (now (a .cb)) (now (a .cr)) (now (a .yden)) (now (a .cbden)) (now (a .crden)) in
     stopped qs refl (c .before .frame-refusal .ensures) (lagKnown (a .lag) ∷ []) (c .if1 .taken)
 
 returns-2 : tie.Need-returns-2
 unfolding fitRefusal frameRefusal copyQuestions frameNumbers shapeNumbers
 returns-2 c =
     let a = c .before .before .before .before .before .before .before .before .before .args in
-    let qs = copyQuestions (a .s) (now (a .y)) (now (a .cb)) (now (a .cr)) (now (a .dy)) (now (a .dcb)) (now (a .dcr)) in
+    let qs = copyQuestions (a .s) (now (a .y)) (now (a .cb)) (now (a .cr)) (now (a .yden)) (now (a .cbden)) (now (a .crden)) in
     continued qs refl (c .before .before .frame-refusal .ensures) (lagKnown (a .lag) ∷ []) (c .before .if1 .left) (c .lag-refusal .ensures)
 
 pub fit-refusal-spec : {M : Type 1} → statement M

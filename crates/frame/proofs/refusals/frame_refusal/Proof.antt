@@ -15,10 +15,10 @@ returns : tie.Need-returns
 unfolding frameRefusal copyQuestions frameNumbers shapeNumbers
 returns c =
     let a = c .before .before .before .before .before .before .before .before .args in
-    let luma = now (a .y) ∷ now (a .dy) ∷ [] in
-    let chroma = now (a .cb) ∷ now (a .cr) ∷ now (a .dcb) ∷ now (a .dcr) ∷ [] in
+    let luma = now (a .y) ∷ now (a .yden) ∷ [] in
+    let chroma = now (a .cb) ∷ now (a .cr) ∷ now (a .cbden) ∷ now (a .crden) ∷ [] in
     let source = now (a .y) ∷ now (a .cb) ∷ now (a .cr) ∷ [] in
-    let copy = now (a .dy) ∷ now (a .dcb) ∷ now (a .dcr) ∷ [] in
+    let copy = now (a .yden) ∷ now (a .cbden) ∷ now (a .crden) ∷ [] in
     stopped (frameNumbers (a .s) (map length luma) (map length chroma)) refl (c .before .frame-numbers .ensures)
     (samplesLow (a .s .depth) (source ++ copy) ∷ []) (c .if1 .taken)
 
@@ -26,10 +26,10 @@ returns-2 : tie.Need-returns-2
 unfolding frameRefusal copyQuestions frameNumbers shapeNumbers
 returns-2 c =
     let a = c .before .before .before .before .before .before .before .before .before .before .before .args in
-    let luma = now (a .y) ∷ now (a .dy) ∷ [] in
-    let chroma = now (a .cb) ∷ now (a .cr) ∷ now (a .dcb) ∷ now (a .dcr) ∷ [] in
+    let luma = now (a .y) ∷ now (a .yden) ∷ [] in
+    let chroma = now (a .cb) ∷ now (a .cr) ∷ now (a .cbden) ∷ now (a .crden) ∷ [] in
     let source = now (a .y) ∷ now (a .cb) ∷ now (a .cr) ∷ [] in
-    let copy = now (a .dy) ∷ now (a .dcb) ∷ now (a .dcr) ∷ [] in
+    let copy = now (a .yden) ∷ now (a .cbden) ∷ now (a .crden) ∷ [] in
     asked (frameNumbers (a .s) (map length luma) (map length chroma)) refl (c .before .before .before .before .frame-numbers .ensures)
     (samplesLow (a .s .depth) (source ++ copy)) (c .ask .ensures)
     (low-both (a .s .depth) source copy (c .before .before .frame-low .ensures) (c .before .frame-low2 .ensures))
