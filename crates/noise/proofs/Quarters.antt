@@ -12,27 +12,27 @@ use mir.Val.{ofZ, toZ}
 use Rattle.laws.specs.Sums.{total, sumTo}
 use Rattle.laws.proofs.Whole.{abs-add, abs-mul-le}
 use Rattle.laws.proofs.Is.{Is, self, again, sfits, plus, times}
-use Rattle.noise.specs.Lines.{at, AtMost}
+use Rattle.noise.specs.Lines.{at, AtMost, noiseLimit}
 use Rattle.noise.specs.Quarters.{quartered}
 
 -- ---- the machine's numbers
 abbrev local : ℤ → ℤ
 local z = toZ w16 (ofZ w16 z)
 
-held : (z : ℤ) → natAbs z ≤ 8190 → Is w16 (local z) z
+held : (z : ℤ) → natAbs z ≤ 2 * noiseLimit → Is w16 (local z) z
 held z h = again (self (sfits w16 z (lt-of-le-of-lt h (lit< tt))))
 
 pub abs-add-le : {a b : ℕ} (x y : ℤ) → natAbs x ≤ a → natAbs y ≤ b → natAbs (x +ℤ y) ≤ a + b
 abs-add-le x y h k = le-trans (abs-add x y) (add-le-add h k)
 
-pub two-is : (x y : ℤ) → natAbs x ≤ 8190 → natAbs y ≤ 8190 → Is w16 (local x +ℤ local y) (x +ℤ y)
+pub two-is : (x y : ℤ) → natAbs x ≤ 2 * noiseLimit → natAbs y ≤ 2 * noiseLimit → Is w16 (local x +ℤ local y) (x +ℤ y)
 two-is x y h k = plus (held x h) (held y k) (lt-of-le-of-lt (abs-add-le x y h k) (lit< tt))
 
-twice-is : (x : ℤ) → natAbs x ≤ 8190 → Is w16 (local x *ℤ pos 2) (x *ℤ pos 2)
-twice-is x h = times (held x h) (self (sfits w16 (pos 2) (lit< tt))) (lt-of-le-of-lt (abs-mul-le x (pos 2) 8190 2 h (le-of-eq refl)) (lit< tt))
+twice-is : (x : ℤ) → natAbs x ≤ 2 * noiseLimit → Is w16 (local x *ℤ pos 2) (x *ℤ pos 2)
+twice-is x h = times (held x h) (self (sfits w16 (pos 2) (lit< tt))) (lt-of-le-of-lt (abs-mul-le x (pos 2) (2 * noiseLimit) 2 h (le-of-eq refl)) (lit< tt))
 
 -- ---- what a column gets
-module _ (sums : List ℤ) (S : AtMost 8190 sums) where
+module _ (sums : List ℤ) (S : AtMost (2 * noiseLimit) sums) where
   pub kept-is : (c : ℕ) → c < length sums → Is w16 (local (at sums c) *ℤ pos 2) (quartered 0 sums c)
   unfolding quartered total
   kept-is c l =

@@ -18,9 +18,9 @@ use Rattle.laws.proofs.Sums.{sum-ext, span-zero}
 use Rattle.laws.proofs.Window.{in-window, window-nodup, sum-window}
 use Rattle.laws.proofs.FloatSums.{loops-sum}
 use Rattle.laws.specs.Limits.{planeLimit, sampleLimit}
-use Rattle.noise.specs.Noise.{noise, noiseF, place}
+use Rattle.noise.specs.Noise.{noise, noiseF, place, Pair}
 use Rattle.noise.specs.Seen.{sumOver}
-use Rattle.noise.specs.Products.{Pair, Factor, own, onward, Inside, Exists, reached, productF, exactly, scale}
+use Rattle.noise.specs.Products.{Factor, own, onward, Inside, Exists, reached, productF, exactly, scale}
 use Rattle.noise.specs.Claim.{Limited, limitOf, PositionsOf, Case}
 use Rattle.noise.specs.Steps.{windowF, dotF, lagF}
 use Rattle.noise.proofs.Loops.{loop-rows, loop-tested}

@@ -3,7 +3,6 @@ use Prim.Native.Nat.{_-_}
 use native.Mathlib.Omega.{arith}
 use borrow.Author.Needs.{needs}
 use lib.IntN.{pos, _*ℤ_}
-use lib.ListN.{length, length-set}
 use mir.Syntax.{w16}
 use mir.Val.{ofZ, toZ}
 use Rattle.laws.proofs.Is.{Is, fits, again}
@@ -15,24 +14,18 @@ use Rattle.noise.proofs.average.kept_line.Statement.{statement}
 use Rattle.noise.proofs.average.kept_line.Tie as tie
 
 abbrev Inv-loop : tie.InvT-loop
-Inv-loop sums line₀ i₀ line i = Filled (quartered 0 sums) line₀ line i
+Inv-loop sums line₀ i₀ i-end line i = Filled (quartered 0 sums) line₀ line i
 
 abbrev μ-loop : tie.MeasureT-loop
-μ-loop sums line₀ i₀ line i = length line - i
-
-loop-holds : tie.Need-loop-holds Inv-loop μ-loop
-loop-holds c = fill-starts _ _
+μ-loop sums line₀ i₀ i-end line i = i-end - i
 
 -- what a turn stores
-stored : (c : tie.After-a Inv-loop μ-loop) → let A = c .before .before .before .args in
+stored : (c : tie.After-line Inv-loop μ-loop) → let A = c .before .before .before .args in
     Is w16 (toZ w16 (ofZ w16 (at (A .sums .now) (c .before .before .loop .i))) *ℤ pos 2) (quartered 0 (A .sums .now) (c .before .before .loop .i))
 stored c = kept-is _ (c .before .before .before .pre .0) (c .before .before .loop .i) (omega arith)
 
-mul-line : tie.Need-mul-line Inv-loop μ-loop
-mul-line c = fits (stored c)
-
-loop-less : tie.Need-loop-less Inv-loop μ-loop
-loop-less c = simp length-set (omega arith)
+mul-line-2 : tie.Need-mul-line-2 Inv-loop μ-loop
+mul-line-2 c = fits (stored c)
 
 loop-again : tie.Need-loop-again Inv-loop μ-loop
 loop-again c = fill-turn _ _ _ (c .before .before .loop .inv) (search needs) (again (stored c) .eq)
@@ -46,14 +39,14 @@ kept-line-spec =
     (tie.spec
     Inv-loop
     μ-loop
-    loop-holds
+    (λ c. fill-starts _ _)
     (λ c. search needs)
     (λ c. omega arith)
-    mul-line
+    mul-line-2
     (λ c. search needs)
     (λ c. search needs)
     (λ c. search needs)
-    loop-less
+    (λ c. search needs)
     loop-again
     (λ c. search needs)
     returns)
