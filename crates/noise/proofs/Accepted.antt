@@ -2,19 +2,16 @@
 use mathlib.Core.Path.{_≡_}
 use mathlib.Core.List.{List}
 use Prim.Native.Nat.{ℕ, _*_, _≤_}
-use Rattle.laws.specs.Limits.{planeLimit, sampleLimit}
 use Rattle.frame.specs.Planes.{samplesOf, widthOf, heightOf, viewOf, geometryOf}
 use Rattle.frame.specs.Calls.{frameRefusal, fitRefusal}
 use Rattle.frame.specs.declared.Shape.{Shape}
 use Rattle.frame.specs.declared.view.Component.{Component}
 use Rattle.frame.specs.declared.view.Component.the-variants.{Y, CbCr}
 use Rattle.frame.proofs.Size.{width-le, height-le}
-use Rattle.frame.proofs.Facts.{Small, Known, Plane}
+use Rattle.frame.proofs.Facts.{Known, Plane}
 use Rattle.frame.proofs.Accepted.{FrameCall, frame-call, fit-call}
 use Rattle.noise.specs.Lines as lines
-use Rattle.noise.specs.Claim.{Samples}
 use Rattle.noise.specs.Seen.{Seen, SeenFrame}
-use Rattle.noise.proofs.Products.{plane-samples}
 use Rattle.noise.proofs.Seen.{seen-all}
 use Rattle.noise.proofs.Over.{shape-over}
 
@@ -27,9 +24,6 @@ plane-of w h depth source denoised P Q = record {
   denoised-low = λ i l. Q .below-12 i;
 }
 
-pub accepted-samples : (w h depth : ℕ) (source denoised : List ℕ) → Small w h → Plane (w * h) depth source → Plane (w * h) depth denoised → Samples planeLimit sampleLimit source denoised (w * h)
-accepted-samples w h depth source denoised S P Q = plane-samples w h source denoised (S .wide) (S .high) (plane-of w h depth source denoised P Q)
-
 -- a component of an accepted shape
 pub plane-seen : (s : Shape) (component : Component) {source denoised : List ℕ} → Known s → Plane (samplesOf s component) (s .depth) source → Plane (samplesOf s component) (s .depth) denoised
     → Seen (viewOf s component) source denoised
@@ -38,19 +32,19 @@ plane-seen s component K P Q =
 
 -- ---- the calls
 
-frame-call-seen : (s : Shape) (y cb cr y-den cb-den cr-den : List ℕ) → FrameCall s y cb cr y-den cb-den cr-den → SeenFrame (geometryOf s) y y-den cb cb-den cr cr-den
-frame-call-seen s y cb cr y-den cb-den cr-den C = record {
+frame-call-seen : (s : Shape) (y cb cr y-denoised cb-denoised cr-denoised : List ℕ) → FrameCall s y cb cr y-denoised cb-denoised cr-denoised → SeenFrame (geometryOf s) y y-denoised cb cb-denoised cr cr-denoised
+frame-call-seen s y cb cr y-denoised cb-denoised cr-denoised C = record {
   luma = plane-seen s Y (C .shape) (C .source .y) (C .copy .y);
   cb = plane-seen s CbCr (C .shape) (C .source .cb) (C .copy .cb);
   cr = plane-seen s CbCr (C .shape) (C .source .cr) (C .copy .cr);
   over = shape-over s;
 }
 
-pub frame-seen : (s : Shape) (y cb cr y-den cb-den cr-den : List ℕ) → frameRefusal s y cb cr y-den cb-den cr-den ≡ 0 → SeenFrame (geometryOf s) y y-den cb cb-den cr cr-den
-frame-seen s y cb cr y-den cb-den cr-den e = frame-call-seen s y cb cr y-den cb-den cr-den (frame-call s y cb cr y-den cb-den cr-den e)
+pub frame-seen : (s : Shape) (y cb cr y-denoised cb-denoised cr-denoised : List ℕ) → frameRefusal s y cb cr y-denoised cb-denoised cr-denoised ≡ 0 → SeenFrame (geometryOf s) y y-denoised cb cb-denoised cr cr-denoised
+frame-seen s y cb cr y-denoised cb-denoised cr-denoised e = frame-call-seen s y cb cr y-denoised cb-denoised cr-denoised (frame-call s y cb cr y-denoised cb-denoised cr-denoised e)
 
-pub fit-seen : (s : Shape) (y cb cr y-den cb-den cr-den : List ℕ) (lag : ℕ) → fitRefusal s y cb cr y-den cb-den cr-den lag ≡ 0
-    → SeenFrame (geometryOf s) y y-den cb cb-den cr cr-den × (lag ≤ 3)
-fit-seen s y cb cr y-den cb-den cr-den lag e =
-    let C = fit-call s y cb cr y-den cb-den cr-den lag e in
-    (frame-call-seen s y cb cr y-den cb-den cr-den (C .frame), C .lag-known)
+pub fit-seen : (s : Shape) (y cb cr y-denoised cb-denoised cr-denoised : List ℕ) (lag : ℕ) → fitRefusal s y cb cr y-denoised cb-denoised cr-denoised lag ≡ 0
+    → SeenFrame (geometryOf s) y y-denoised cb cb-denoised cr cr-denoised × (lag ≤ 3)
+fit-seen s y cb cr y-denoised cb-denoised cr-denoised lag e =
+    let C = fit-call s y cb cr y-denoised cb-denoised cr-denoised lag e in
+    (frame-call-seen s y cb cr y-denoised cb-denoised cr-denoised (C .frame), C .lag-known)

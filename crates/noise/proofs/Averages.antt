@@ -5,14 +5,14 @@ use Prim.Native.Nat.{ℕ, _+_, _-_, _*_, _^_, _≤_, _<_, min}
 use native.Mathlib.Nat.{le-refl, le-trans, le-of-eq, lt-of-le-of-lt, lt-of-lt-of-le, add-zero, min-eq-left}
 use native.Mathlib.Omega.{arith}
 use lib.Dec.{lit≤}
-use lib.IntN.{ℤ, pos, natAbs, _+ℤ_, _*ℤ_, +ℤ-idl}
+use lib.IntN.{ℤ, pos, natAbs, one, _+ℤ_, _*ℤ_, +ℤ-idl, *ℤ-one}
 use lib.ListN.{length}
 use Rattle.laws.specs.Limits.{sampleLimit}
 use Rattle.laws.specs.Table.{tabulate}
 use Rattle.laws.specs.Sums.{total, sumTo}
 use Rattle.laws.proofs.Table.{tabulate-same}
-use Rattle.laws.proofs.Whole.{abs-mul-le, mul-sum, sum-mul}
-use Rattle.laws.proofs.Sums.{sum-ext, sum-add, sum-bound}
+use Rattle.laws.proofs.Whole.{abs-mul-le, mul-sum}
+use Rattle.laws.proofs.Sums.{sum-add, sum-bound}
 use Rattle.frame.specs.Size.{sampled}
 use Rattle.frame.specs.declared.view.View.{View}
 use Rattle.frame.specs.declared.view.Sampling.{Sampling}
@@ -20,46 +20,56 @@ use Rattle.noise.specs.Noise.{noise, noiseOf}
 use Rattle.noise.specs.Average.{Luma, lumaPlace, quarters}
 use Rattle.noise.specs.Lines.{at, AtMost, noiseLimit, Places, Plane}
 use Rattle.noise.specs.Seen.{seen, noiseAt}
-use Rattle.noise.specs.Quarters.{quartered, AverageRow}
+use Rattle.noise.specs.Quarters.{sumAt, quartered, AverageRow}
 use Rattle.noise.proofs.Seen.{plane-noise-le, seen-plane, noise-seen}
 use Rattle.noise.proofs.LineSums.{entry, size}
 use Rattle.noise.proofs.Quarters.{abs-add-le}
 use Rattle.noise.proofs.Halving.{Bit, kept, halved, bit, first, held-in, some}
 
 -- ---- one or two rows of one or two noises
-doubled : (z : ℤ) (m : ℕ) → (z +ℤ z) *ℤ pos m ≡ z *ℤ pos (m + m)
-doubled z m = sum-mul z z (pos m) ∙ sym (mul-sum z (pos m) (pos m))
+doubled : (z : ℤ) → z +ℤ z ≡ z *ℤ pos 2
+unfolding one
+doubled z = (λ i. sym (*ℤ-one z) i +ℤ sym (*ℤ-one z) i) ∙ sym (mul-sum z (pos 1) (pos 1))
 
-module _ (N : ℕ → ℕ → ℤ) where
-  abbrev row : ℕ → ℕ → ℤ
-  row a i = sumTo (λ j. N i j) (a + 1)
+-- the first and the last of one or two
+ends : (f : ℕ → ℤ) (a : ℕ) → Bit a → f 0 +ℤ f a ≡ sumTo f (a + 1) *ℤ pos (2 ^ (1 - a))
+unfolding total one
+ends f a kept = doubled (f 0) ∙ ap (λ (z : ℤ). z *ℤ pos 2) (sym (+ℤ-idl (f 0)))
+ends f a halved = ap (λ (z : ℤ). z +ℤ f 1) (sym (+ℤ-idl (f 0))) ∙ sym (*ℤ-one _)
 
-  rows-are : (a b : ℕ) → Bit a → Bit b → (row a 0 +ℤ row a b) *ℤ pos (2 ^ (1 - a)) ≡ sumTo (row a) (b + 1) *ℤ pos (2 ^ (2 - (a + b)))
-  unfolding total
-  rows-are a b halved halved = ap (λ (z : ℤ). (z +ℤ row 1 1) *ℤ pos 1) (sym (+ℤ-idl (row 1 0)))
-  rows-are a b kept halved = ap (λ (z : ℤ). (z +ℤ row 0 1) *ℤ pos 2) (sym (+ℤ-idl (row 0 0)))
-  rows-are a b halved kept = doubled (row 1 0) 1 ∙ ap (λ (z : ℤ). z *ℤ pos 2) (sym (+ℤ-idl (row 1 0)))
-  rows-are a b kept kept = doubled (row 0 0) 2 ∙ ap (λ (z : ℤ). z *ℤ pos 4) (sym (+ℤ-idl (row 0 0)))
+-- once or twice, and again once or twice
+twofold : (z : ℤ) (a b : ℕ) → Bit a → Bit b → z *ℤ pos (2 ^ (1 - b)) *ℤ pos (2 ^ (1 - a)) ≡ z *ℤ pos (2 ^ (2 - (a + b)))
+unfolding one
+twofold z a b halved halved = *ℤ-one (z *ℤ pos 1)
+twofold z a b halved kept = *ℤ-one (z *ℤ pos 2)
+twofold z a b kept halved = ap (λ (y : ℤ). y *ℤ pos 2) (*ℤ-one z)
+twofold z a b kept kept = sym (doubled (z *ℤ pos 2)) ∙ sym (mul-sum z (pos 2) (pos 2))
 
-  module _ (a b : ℕ) (x : Bit a) (y : Bit b) where
-    pairs-are : sumTo (λ j. N 0 j +ℤ N b j) (a + 1) *ℤ pos (2 ^ (1 - a)) ≡ sumTo (row a) (b + 1) *ℤ pos (2 ^ (2 - (a + b)))
-    pairs-are = ap (λ (z : ℤ). z *ℤ pos (2 ^ (1 - a))) (sum-add (N 0) (N b) (a + 1)) ∙ rows-are a b x y
+module _ (N : ℕ → ℕ → ℤ) (a b : ℕ) (x : Bit a) (y : Bit b) where
+  abbrev row : ℕ → ℤ
+  row i = sumTo (λ j. N i j) (a + 1)
 
-    module _ (small : (i j : ℕ) → natAbs (N i j) ≤ noiseLimit) where
-      total-le : natAbs (sumTo (row a) (b + 1) *ℤ pos (2 ^ (2 - (a + b)))) ≤ (b + 1) * ((a + 1) * noiseLimit) * 2 ^ (2 - (a + b))
-      total-le =
-          abs-mul-le (sumTo (row a) (b + 1)) (pos (2 ^ (2 - (a + b)))) _ _
-          (sum-bound (row a) ((a + 1) * noiseLimit) (b + 1) (λ i l. sum-bound (N i) noiseLimit (a + 1) (λ j m. small i j)))
-          (le-refl (2 ^ (2 - (a + b))))
+  pairs-are : N 0 0 +ℤ N b 0 +ℤ (N 0 a +ℤ N b a) ≡ sumTo row (b + 1) *ℤ pos (2 ^ (2 - (a + b)))
+  pairs-are =
+      ends (λ j. N 0 j +ℤ N b j) a x
+      ∙ ap (λ (z : ℤ). z *ℤ pos (2 ^ (1 - a))) (sum-add (N 0) (N b) (a + 1) ∙ ends row b y)
+      ∙ twofold (sumTo row (b + 1)) a b x y
 
-      four-le : natAbs (sumTo (row a) (b + 1) *ℤ pos (2 ^ (2 - (a + b)))) ≤ 4 * noiseLimit
-      four-le = le-trans total-le (four a b x y)
-        where
-          four : (a b : ℕ) → Bit a → Bit b → (b + 1) * ((a + 1) * noiseLimit) * 2 ^ (2 - (a + b)) ≤ 4 * noiseLimit
-          four a b halved halved = lit≤ tt
-          four a b halved kept = lit≤ tt
-          four a b kept halved = lit≤ tt
-          four a b kept kept = lit≤ tt
+  module _ (small : (i j : ℕ) → natAbs (N i j) ≤ noiseLimit) where
+    total-le : natAbs (sumTo row (b + 1) *ℤ pos (2 ^ (2 - (a + b)))) ≤ (b + 1) * ((a + 1) * noiseLimit) * 2 ^ (2 - (a + b))
+    total-le =
+        abs-mul-le (sumTo row (b + 1)) (pos (2 ^ (2 - (a + b)))) _ _
+        (sum-bound row ((a + 1) * noiseLimit) (b + 1) (λ i l. sum-bound (N i) noiseLimit (a + 1) (λ j m. small i j)))
+        (le-refl (2 ^ (2 - (a + b))))
+
+    four-le : natAbs (sumTo row (b + 1) *ℤ pos (2 ^ (2 - (a + b)))) ≤ 4 * noiseLimit
+    four-le = le-trans total-le (four a b x y)
+      where
+        four : (a b : ℕ) → Bit a → Bit b → (b + 1) * ((a + 1) * noiseLimit) * 2 ^ (2 - (a + b)) ≤ 4 * noiseLimit
+        four a b halved halved = lit≤ tt
+        four a b halved kept = lit≤ tt
+        four a b kept halved = lit≤ tt
+        four a b kept kept = lit≤ tt
 
 -- ---- of a frame
 -- the luma rows of chroma row r, and the sums of their noise
@@ -95,8 +105,7 @@ module _ (l : Luma) (r : ℕ) (R : Rows l r) where
     wide = size (l .plane .width) _ (T .sums-are)
 
     cell : (c j : ℕ) → c < sampled (l .sampling .across) (l .plane .width)
-        → at sums (min (c * 2 ^ l .sampling .across + j) (length sums - 1))
-        ≡ noise (l .plane .source) (l .plane .denoised) (lumaPlace l r c 0 j) +ℤ noise (l .plane .source) (l .plane .denoised) (lumaPlace l r c (l .sampling .down) j)
+        → sumAt (l .sampling .across) sums c j ≡ noise (l .plane .source) (l .plane .denoised) (lumaPlace l r c 0 j) +ℤ noise (l .plane .source) (l .plane .denoised) (lumaPlace l r c (l .sampling .down) j)
     cell c j k =
         let x = min (c * 2 ^ l .sampling .across + j) (l .plane .width - 1) in
         ap (λ (n : ℕ). at sums (min (c * 2 ^ l .sampling .across + j) (n - 1))) wide
@@ -106,7 +115,7 @@ module _ (l : Luma) (r : ℕ) (R : Rows l r) where
     quarters-are : (c : ℕ) → c < sampled (l .sampling .across) (l .plane .width) → quartered (l .sampling .across) sums c ≡ quarters l r c
     unfolding quartered quarters
     quarters-are c k =
-        ap (λ (z : ℤ). z *ℤ pos (2 ^ (1 - l .sampling .across))) (sum-ext _ _ (l .sampling .across + 1) (λ j m. cell c j k))
+        (λ i. cell c 0 k i +ℤ cell c (l .sampling .across) k i)
         ∙ pairs-are (λ i j. noise (l .plane .source) (l .plane .denoised) (lumaPlace l r c i j)) _ _ (R .across) (R .down)
 
     pub sums-small : AtMost (2 * noiseLimit) sums

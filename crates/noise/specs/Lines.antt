@@ -5,6 +5,7 @@ use Prim.Native.Nat.{ℕ, _+_, _-_, _*_, _^_, _≤_, _<_}
 use Rattle.laws.specs.Limits.{sideLimit, sampleLimit}
 use lib.IntN.{ℤ, pos, natAbs, _*ℤ_}
 use lib.ListN.{length, getD}
+use Rattle.noise.specs.Noise.{noise}
 
 -- the number at place i of a line
 abbrev pub at : List ℤ → ℕ → ℤ
@@ -32,6 +33,10 @@ pub record LowAt (limit : ℕ) (source denoised : List ℕ) (k : ℕ) : Type 0 w
   pub in-denoised : k < length denoised
   pub source-low : getD source k 0 < limit
   pub denoised-low : getD denoised k 0 < limit
+
+-- the noise at place i of a row
+abbrev pub rowNoise : List ℕ → List ℕ → ℕ → ℕ → ℕ → ℤ
+rowNoise source denoised start stride i = noise source denoised (start + i * stride)
 
 -- n places of two planes of one size, from start on, stride apart; every sample below a limit
 pub record Places (limit : ℕ) (source denoised : List ℕ) (start stride n : ℕ) : Type 0 where

@@ -9,7 +9,7 @@ use Rattle.frame.specs.Size.{sampled}
 use Rattle.frame.specs.View.{placeAt, viewed}
 use Rattle.frame.specs.declared.view.View.{View}
 use Rattle.frame.specs.declared.view.Geometry.{Geometry}
-use Rattle.noise.specs.Noise.{noise, Pair, pair}
+use Rattle.noise.specs.Noise.{noise, place, Pair, pair, noiseOf}
 use Rattle.noise.specs.Shift.{shifted}
 use Rattle.noise.specs.Lines.{Places}
 use Rattle.noise.specs.declared.sums.PlaneSums.{PlaneSums}
@@ -47,6 +47,10 @@ pub record SeenFrame (g : Geometry) (y y-denoised blue blue-denoised red red-den
 -- f r c for every row r and column c, added up
 abbrev pub sumOver : ℕ → ℕ → (ℕ → ℕ → ℤ) → ℤ
 sumOver rows columns f = sumTo (λ r. sumTo (λ c. f r c) columns) rows
+
+-- of two planes of one size: a noise times the other's noise `lag` columns on, over all places where both are
+abbrev pub laggedSum : Pair → Pair → ℕ → ℤ
+laggedSum a b lag = sumOver (a .height) (a .width - lag) (λ r c. noiseOf a r c *ℤ noise (b .source) (b .denoised) (place (a .width) r (c + lag)))
 
 -- a noise, shifted and squared
 abbrev pub squared : ℕ → ℤ → ℤ

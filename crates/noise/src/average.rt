@@ -6,22 +6,22 @@ ghost use lib.ListN.{length, take};
 ghost use Rattle.laws.specs.Limits.{sampleLimit};
 ghost use Rattle.laws.specs.Table.{tabulate};
 ghost use Rattle.frame.specs.Size.{sampled};
-ghost use Rattle.noise.specs.Noise.{noise};
 ghost use Rattle.noise.specs.Average.{quarters};
-ghost use Rattle.noise.specs.Lines.{AtMost, noiseLimit, Places};
+ghost use Rattle.noise.specs.Lines.{AtMost, noiseLimit, rowNoise, Places};
 ghost use Rattle.noise.specs.Seen.{seen};
 ghost use Rattle.noise.specs.Quarters.{quartered, AverageRow};
 use crate::line::noise_at;
 use frame::Sampling;
 use frame::View;
 
-// line[i] = sums[i] × 2.
+// line[k] = sums[k] + sums[k].
 fn kept_line(sums: &[i16], line: &mut [i16])
     requires { ⌜ AtMost (2 * noiseLimit) (now sums) × (length (now line) ≡ sampled 0 (length (now sums))) ⌝ }
     ensures { λ _. ⌜ now (line .exit) ≡ tabulate (length (now (line .entry))) (quartered 0 (now (sums .entry))) ⌝ }
 {
-    for i in 0..line.len() {
-        line[i] = sums[i] * 2;
+    for k in 0..line.len() {
+        let a = sums[k];
+        line[k] = a + a;
     }
 }
 
@@ -54,7 +54,7 @@ fn halved_line(sums: &[i16], line: &mut [i16])
     }
 }
 
-// Four times the average of the luma noises at each chroma column, from the sums of two rows: sub is 1 where the format halves the columns, else 0.
+// line[k] = sums at the two luma columns of chroma column k, which are one where the format keeps the columns: sub is 1 where it halves them, else 0.
 fn quarters_line(sums: &[i16], sub: usize, line: &mut [i16])
     requires { ⌜ (sub ≤ 1) × AtMost (2 * noiseLimit) (now sums) × (length (now line) ≡ sampled sub (length (now sums))) ⌝ }
     ensures { λ _. ⌜ now (line .exit) ≡ tabulate (length (now (line .entry))) (quartered sub (now (sums .entry))) ⌝ }
@@ -84,7 +84,7 @@ fn added_places(
     sums: &mut [i16],
 )
     requires { ⌜ Places sampleLimit (now src) (now den) upper stride (length (now sums)) × Places sampleLimit (now src) (now den) lower stride (length (now sums)) ⌝ }
-    ensures { λ _. ⌜ now (sums .exit) ≡ tabulate (length (now (sums .entry))) (λ i. noise (now (src .entry)) (now (den .entry)) (upper + i * stride) +ℤ noise (now (src .entry)) (now (den .entry)) (lower + i * stride)) ⌝ }
+    ensures { λ _. ⌜ now (sums .exit) ≡ tabulate (length (now (sums .entry))) (λ i. rowNoise (now (src .entry)) (now (den .entry)) upper stride i +ℤ rowNoise (now (src .entry)) (now (den .entry)) lower stride i) ⌝ }
 {
     for i in 0..sums.len() {
         let a = noise_at(src, den, upper + i * stride);
@@ -96,7 +96,7 @@ fn added_places(
 // The noise of two rows, added column by column. With a stride of 1 written out, the back end makes packed loads and differences of the loop.
 fn added_rows(src: &[u16], den: &[u16], upper: usize, lower: usize, stride: usize, sums: &mut [i16])
     requires { ⌜ Places sampleLimit (now src) (now den) upper stride (length (now sums)) × Places sampleLimit (now src) (now den) lower stride (length (now sums)) ⌝ }
-    ensures { λ _. ⌜ now (sums .exit) ≡ tabulate (length (now (sums .entry))) (λ i. noise (now (src .entry)) (now (den .entry)) (upper + i * stride) +ℤ noise (now (src .entry)) (now (den .entry)) (lower + i * stride)) ⌝ }
+    ensures { λ _. ⌜ now (sums .exit) ≡ tabulate (length (now (sums .entry))) (λ i. rowNoise (now (src .entry)) (now (den .entry)) upper stride i +ℤ rowNoise (now (src .entry)) (now (den .entry)) lower stride i) ⌝ }
 {
     if stride == 1 {
         added_places(src, den, upper, lower, 1, sums);

@@ -6,7 +6,7 @@ ghost use lib.ListN.{length};
 ghost use Rattle.laws.specs.Table.{tabulate};
 ghost use Rattle.noise.specs.Noise.{noise};
 ghost use Rattle.noise.specs.Shift.{shifted};
-ghost use Rattle.noise.specs.Lines.{at, LowAt, Places};
+ghost use Rattle.noise.specs.Lines.{at, LowAt, rowNoise, Places};
 use frame::SIDE_LIMIT;
 
 // src[place] − den[place]
@@ -22,7 +22,7 @@ pub fn noise_at(src: &[u16], den: &[u16], place: usize) -> i16
 // line[i] = the noise at start + i × stride.
 fn noise_places(src: &[u16], den: &[u16], start: usize, stride: usize, line: &mut [i16])
     requires { ⌜ Places (2 ^ 15) (now src) (now den) start stride (length (now line)) ⌝ }
-    ensures { λ _. ⌜ now (line .exit) ≡ tabulate (length (now (line .entry))) (λ i. noise (now (src .entry)) (now (den .entry)) (start + i * stride)) ⌝ }
+    ensures { λ _. ⌜ now (line .exit) ≡ tabulate (length (now (line .entry))) (rowNoise (now (src .entry)) (now (den .entry)) start stride) ⌝ }
 {
     for i in 0..line.len() {
         line[i] = noise_at(src, den, start + i * stride);
@@ -32,7 +32,7 @@ fn noise_places(src: &[u16], den: &[u16], start: usize, stride: usize, line: &mu
 // A line of noise. With a stride of 1 written out, the back end makes packed loads and differences of the loop.
 pub fn noise_line(src: &[u16], den: &[u16], start: usize, stride: usize, line: &mut [i16])
     requires { ⌜ Places (2 ^ 15) (now src) (now den) start stride (length (now line)) ⌝ }
-    ensures { λ _. ⌜ now (line .exit) ≡ tabulate (length (now (line .entry))) (λ i. noise (now (src .entry)) (now (den .entry)) (start + i * stride)) ⌝ }
+    ensures { λ _. ⌜ now (line .exit) ≡ tabulate (length (now (line .entry))) (rowNoise (now (src .entry)) (now (den .entry)) start stride) ⌝ }
 {
     if stride == 1 {
         noise_places(src, den, start, 1, line);
