@@ -19,7 +19,7 @@ use Rattle.noise.specs.Seen.{sumOver}
 use Rattle.noise.specs.Products.{Factor, average, own, Inside, Exists, whole, exactly, scale}
 use Rattle.noise.specs.Claim.{Limited, limitOf, PositionsOf}
 use Rattle.noise.specs.Steps.{InFit, near, tap, windowF}
-use Rattle.noise.proofs.Steps.{window-positions, window-sum, grid-sum, own-place, inside-on}
+use Rattle.noise.proofs.Steps.{window-positions, window-sum, rows-sum, own-place, inside-on}
 
 -- k rows or columns back
 inside-back : (n r k : ℕ) → k < r → r < n → Inside n (pos r +ℤ negsuc k)
@@ -59,7 +59,7 @@ module _ (limit top : ℕ) (plane : Pair) (u v : Factor) (H : Held (limitOf limi
   pub whole-sum : InFit plane 0 u → InFit plane 0 v
       → windowF u v 0 (plane .height) 0 (plane .width) ≡ ofScaled (scale u v) (sumTo (λ y. sumTo (λ x. exactly u v (y, x)) (plane .width)) (plane .height))
   whole-sum a b =
-      grid-sum limit top u v H S T (plane .height) (plane .width)
+      rows-sum limit top u v H S T (plane .height) (plane .width)
       (λ y x h k l m. (fit-exists plane 0 u a y x h k l (omega arith), fit-exists plane 0 v b y x h k l (omega arith)))
 
 -- with one luma average the sum in sixteenths is four for each quarter

@@ -56,8 +56,8 @@ module _ (limit top : ℕ) (u v : Factor) (H : Held (limitOf limit top u v)) (S 
       ∙ ap (ofScaled (scale u v)) (sum-window (λ y x. exactly u v (y, x)) a b c d)
 
   -- counted from 0
-  pub grid-sum : (h w : ℕ) → Everywhere u v 0 h 0 w → windowF u v 0 h 0 w ≡ ofScaled (scale u v) (sumTo (λ y. sumTo (λ x. exactly u v (y, x)) w) h)
-  grid-sum h w e =
+  pub rows-sum : (h w : ℕ) → Everywhere u v 0 h 0 w → windowF u v 0 h 0 w ≡ ofScaled (scale u v) (sumTo (λ y. sumTo (λ x. exactly u v (y, x)) w) h)
+  rows-sum h w e =
       window-sum 0 h 0 w e
       ∙ ap (ofScaled (scale u v))
       ((λ i. span (λ y. span (λ x. exactly u v (y, x)) 0 (sub-zero w i)) 0 (sub-zero h i))
@@ -81,7 +81,7 @@ module _ (a b : Pair) (wide : b .width ≡ a .width) (high : b .height ≡ a .he
   pub lagged-sum : (lag limit top : ℕ) → Held (limitOf limit top (own a) (onward b lag)) → Limited limit top (own a) → Limited limit top (own b)
       → windowF (own a) (onward b lag) 0 (a .height) 0 (a .width - lag) ≡ ofScaled 0 (laggedSum a b lag)
   lagged-sum lag limit top H S T =
-      grid-sum limit top (own a) (onward b lag) H S T (a .height) (a .width - lag)
+      rows-sum limit top (own a) (onward b lag) H S T (a .height) (a .width - lag)
       (λ y x h k l m. (onward-exists a 0 y x k (omega arith), onward-exists b lag y x (omega arith) (omega arith)))
       ∙ ap (ofScaled 0)
       (λ i. sumOver (a .height) (a .width - lag) (λ r c. noise (a .source) (a .denoised) (own-place a r c i) *ℤ noise (b .source) (b .denoised) (onward-place lag r c i)))
