@@ -18,9 +18,9 @@ use Rattle.laws.proofs.Sums.{sum-ext, span-zero}
 use Rattle.laws.proofs.Window.{in-window, window-nodup, sum-window}
 use Rattle.laws.proofs.FloatSums.{loops-sum}
 use Rattle.laws.specs.Limits.{planeLimit, sampleLimit}
-use Rattle.noise.specs.Noise.{noise, noiseF, place}
-use Rattle.noise.specs.Seen.{sumOver}
-use Rattle.noise.specs.Products.{Pair, Factor, own, onward, Inside, Exists, reached, productF, exactly, scale}
+use Rattle.noise.specs.Noise.{noise, noiseF, place, Pair}
+use Rattle.noise.specs.Seen.{sumOver, laggedSum}
+use Rattle.noise.specs.Products.{Factor, own, onward, Inside, Exists, reached, productF, exactly, scale}
 use Rattle.noise.specs.Claim.{Limited, limitOf, PositionsOf, Case}
 use Rattle.noise.specs.Steps.{windowF, dotF, lagF}
 use Rattle.noise.proofs.Loops.{loop-rows, loop-tested}
@@ -56,8 +56,8 @@ module _ (limit top : ℕ) (u v : Factor) (H : Held (limitOf limit top u v)) (S 
       ∙ ap (ofScaled (scale u v)) (sum-window (λ y x. exactly u v (y, x)) a b c d)
 
   -- counted from 0
-  pub grid-sum : (h w : ℕ) → Everywhere u v 0 h 0 w → windowF u v 0 h 0 w ≡ ofScaled (scale u v) (sumTo (λ y. sumTo (λ x. exactly u v (y, x)) w) h)
-  grid-sum h w e =
+  pub rows-sum : (h w : ℕ) → Everywhere u v 0 h 0 w → windowF u v 0 h 0 w ≡ ofScaled (scale u v) (sumTo (λ y. sumTo (λ x. exactly u v (y, x)) w) h)
+  rows-sum h w e =
       window-sum 0 h 0 w e
       ∙ ap (ofScaled (scale u v))
       ((λ i. span (λ y. span (λ x. exactly u v (y, x)) 0 (sub-zero w i)) 0 (sub-zero h i))
@@ -74,11 +74,6 @@ inside-on n r k h = (leZ-yes (le→leb 0 (r + k) zero-le), ltZ-yes (lt→ltb (r 
 pub onward-exists : (p : Pair) (lag r c : ℕ) → r < p .height → c + lag < p .width → Exists (onward p lag) (r, c)
 onward-exists p lag r c h l = (inside-on (p .height) r 0 (omega arith), inside-on (p .width) c lag l)
 
--- their exact sum
-abbrev pub laggedSum : Pair → Pair → ℕ → ℤ
-laggedSum a b lag =
-    sumOver (a .height) (a .width - lag) (λ r c. noise (a .source) (a .denoised) (place (a .width) r c) *ℤ noise (b .source) (b .denoised) (place (a .width) r (c + lag)))
-
 module _ (a b : Pair) (wide : b .width ≡ a .width) (high : b .height ≡ a .height) where
   onward-place : (lag r c : ℕ) → reached b (pos 0) (pos lag) (r, c) ≡ place (a .width) r (c + lag)
   onward-place lag r c = λ i. place (wide i) (add-zero r i) (c + lag)
@@ -86,7 +81,7 @@ module _ (a b : Pair) (wide : b .width ≡ a .width) (high : b .height ≡ a .he
   pub lagged-sum : (lag limit top : ℕ) → Held (limitOf limit top (own a) (onward b lag)) → Limited limit top (own a) → Limited limit top (own b)
       → windowF (own a) (onward b lag) 0 (a .height) 0 (a .width - lag) ≡ ofScaled 0 (laggedSum a b lag)
   lagged-sum lag limit top H S T =
-      grid-sum limit top (own a) (onward b lag) H S T (a .height) (a .width - lag)
+      rows-sum limit top (own a) (onward b lag) H S T (a .height) (a .width - lag)
       (λ y x h k l m. (onward-exists a 0 y x k (omega arith), onward-exists b lag y x (omega arith) (omega arith)))
       ∙ ap (ofScaled 0)
       (λ i. sumOver (a .height) (a .width - lag) (λ r c. noise (a .source) (a .denoised) (own-place a r c i) *ℤ noise (b .source) (b .denoised) (onward-place lag r c i)))

@@ -1,13 +1,14 @@
 // Sums over one plane of noise: of its squares, shifted and not, and of its products along a row.
 ghost use mathlib.Core.Path.{_≡_};
-ghost use Prim.Native.Nat.{_+_, _-_, _*_, _≤_, _<_};
+ghost use Prim.Native.Nat.{_+_, _-_, _≤_, _<_};
 ghost use lib.IntN.{_*ℤ_};
 ghost use lib.ListN.{length};
 ghost use Rattle.laws.specs.Sums.{sumTo};
 ghost use Rattle.laws.specs.Limits.{sideLimit, sampleLimit};
-ghost use Rattle.noise.specs.Noise.{noise};
-ghost use Rattle.noise.specs.Lines.{at, product, Places, NoiseLine};
-ghost use Rattle.noise.specs.Seen.{seen, noiseOf, noiseAt, Seen, squared, RowSums, SumsOf};
+ghost use Rattle.noise.specs.Noise.{noiseOf};
+ghost use Rattle.noise.specs.Lines.{at, product, rowNoise, Places, NoiseLine};
+ghost use Rattle.noise.specs.Seen.{seen, noiseAt, Seen, squared, RowSums, SumsOf};
+ghost use Rattle.noise.specs.Rows.{planePlus, PlaneHeld};
 use crate::blocks::dot;
 use crate::line::blank_line;
 use crate::line::noise_line;
@@ -55,7 +56,7 @@ fn row_sums(
     q: &mut [i16],
 ) -> PlaneSums
     requires { ⌜ Places sampleLimit (now src) (now den) start stride (length (now p)) × (length (now p) ≤ sideLimit) × (length (now q) ≡ length (now p)) × (lag ≤ length (now p)) × (shift < 16) ⌝ }
-    ensures { λ s. ⌜ RowSums (λ c. noise (now (src .entry)) (now (den .entry)) (start + c * stride)) (length (now (p .entry))) lag shift s ⌝ }
+    ensures { λ s. ⌜ RowSums (rowNoise (now (src .entry)) (now (den .entry)) start stride) (length (now (p .entry))) lag shift s ⌝ }
 {
     noise_line(src, den, start, stride, p);
     let line = &p[..];
@@ -66,6 +67,18 @@ fn row_sums(
         squares,
         energy,
         lagged,
+    }
+}
+
+// a + b, sum by sum.
+fn plane_plus(a: PlaneSums, b: PlaneSums) -> PlaneSums
+    requires { ⌜ PlaneHeld (planePlus a b) ⌝ }
+    ensures { λ s. ⌜ s ≡ planePlus a b ⌝ }
+{
+    PlaneSums {
+        squares: a.squares + b.squares,
+        energy: a.energy + b.energy,
+        lagged: a.lagged + b.lagged,
     }
 }
 
@@ -82,21 +95,17 @@ fn view_sums(
     requires { ⌜ Seen view (now src) (now den) × (length (now p) ≡ view .width) × (length (now q) ≡ view .width) × (lag ≤ view .width) × (shift < 16) ⌝ }
     ensures { λ s. ⌜ SumsOf (noiseAt (now (src .entry)) (now (den .entry)) view) (view .height) (view .width) lag shift s ⌝ }
 {
-    let mut squares = 0i64;
-    let mut energy = 0i64;
-    let mut lagged = 0i64;
+    let mut total = PlaneSums {
+        squares: 0,
+        energy: 0,
+        lagged: 0,
+    };
     for r in 0..view.height {
         let start = view.start + r * view.step;
         let row = row_sums(src, den, start, view.stride, lag, shift, p, q);
-        squares = squares + row.squares;
-        energy = energy + row.energy;
-        lagged = lagged + row.lagged;
+        total = plane_plus(total, row);
     }
-    PlaneSums {
-        squares,
-        energy,
-        lagged,
-    }
+    total
 }
 
 // The sums over what a view shows of a plane.
