@@ -113,16 +113,9 @@ impl Shape {
     pub fn view(self, component: Component) -> View
         ensures { λ r. ⌜ r ≡ viewOf self component ⌝ }
     {
-        let width = self.width_of(component);
-        let height = self.height_of(component);
-        View {
-            start: 0,
-            step: width,
-            stride: 1,
-            width,
-            height,
-        }
+        View::whole(self.width_of(component), self.height_of(component))
     }
+
     // What a call sees of a frame.
     pub fn geometry(self) -> Geometry
         ensures { λ r. ⌜ r ≡ geometryOf self ⌝ }

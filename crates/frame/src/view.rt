@@ -1,4 +1,6 @@
 // How a plane is looked at.
+ghost use mathlib.Core.Path.{_≡_};
+ghost use Rattle.frame.specs.View.{whole};
 
 // Row r begins at start + r × step, and column c stands c × stride further on.
 pub struct View {
@@ -7,6 +9,21 @@ pub struct View {
     pub stride: usize,
     pub width: usize,
     pub height: usize,
+}
+
+impl View {
+    // The whole of a plane in row order.
+    pub fn whole(width: usize, height: usize) -> View
+        ensures { λ r. ⌜ r ≡ whole width height ⌝ }
+    {
+        View {
+            start: 0,
+            step: width,
+            stride: 1,
+            width,
+            height,
+        }
+    }
 }
 
 // Luma, or one of the two chroma planes, which are of one size.

@@ -4,18 +4,20 @@ use mathlib.Core.List.{List}
 use Prim.Native.Nat.{ℕ, _-_}
 use native.Mathlib.Omega.{arith}
 use Rattle.laws.specs.Limits.{planeLimit, sampleLimit}
-use Rattle.frame.specs.Size.{chromaWidth, chromaHeight}
+use Rattle.frame.specs.View.{whole}
+use Rattle.frame.specs.Planes.{viewOf}
 use Rattle.frame.specs.Calls.{pairRefusal, gateRefusal}
 use Rattle.frame.specs.declared.Shape.{Shape}
-use Rattle.frame.proofs.Accepted.{pair-call, gate-call}
 use Rattle.frame.specs.declared.view.Component.the-variants.{Y, CbCr}
-use Rattle.noise.specs.Products.{Pair, pair, own, onward}
+use Rattle.noise.specs.Products.{Pair, own, onward}
+use Rattle.noise.specs.Seen.{seen}
 use Rattle.noise.specs.Claim.{Limited, Case}
 use Rattle.noise.specs.Steps.{windowF, dotF}
-use Rattle.noise.proofs.Accepted.{accepted-samples, chroma-small}
+use Rattle.noise.proofs.SeenCalls.{pair-seen, first-seen, second-seen}
 use Rattle.noise.proofs.Steps.{frame-case, onward-exists, dot-window, lag-window}
 use Rattle.gate.specs.RowCorrelation.{energyF}
-use Rattle.gate.specs.Demand.{everywhere, before, RowSums, PairSums, LumaSums, ChromaSums}
+use Rattle.gate.proofs.PlaneSums.{limited}
+use Rattle.gate.specs.Demand.{everywhere, before, RowCases, PairCases, LumaCases, ChromaCases}
 
 -- samples within the frame's limit
 abbrev Low : Pair → Type 0
@@ -38,46 +40,35 @@ dot-case p q wide high S T =
     let c = place-case p q wide high S T in
     record { positions = c .positions; added = dot-window p q wide high ∙ c .added; exact = c .exact }
 
-row-sums : (p : Pair) (lag : ℕ) → Low p → RowSums p lag
+row-cases : (p : Pair) (lag : ℕ) → Low p → RowCases p lag
 unfolding energyF
-row-sums p lag S =
+row-cases p lag S =
     let c = lagged-case p p lag refl refl S S in
     record {
       energy = place-case p p refl refl S S;
       lagged = record { positions = c .positions; added = lag-window p lag ∙ c .added; exact = c .exact };
     }
 
-pair-sums : (p q : Pair) → q .width ≡ p .width → q .height ≡ p .height → Low p → Low q → PairSums p q
-pair-sums p q wide high S T = record {
+pair-cases : (p q : Pair) → q .width ≡ p .width → q .height ≡ p .height → Low p → Low q → PairCases p q
+pair-cases p q wide high S T = record {
   first = dot-case p p refl refl S S;
   second = dot-case q q refl refl T T;
   cross = dot-case p q wide high S T;
 }
 
 -- ---- of accepted calls
-pub lag-h-rho-sums : (a b : List ℕ) (w h lag depth : ℕ) → pairRefusal w h depth a b ≡ 0 → RowSums (pair a b w h) lag
-lag-h-rho-sums a b w h lag depth e =
-    let k = pair-call w h depth a b e in
-    row-sums (pair a b w h) lag (accepted-samples w h depth a b (k .size) (k .first) (k .second))
+pub lag-h-rho-sums : (a b : List ℕ) (w h lag depth : ℕ) → pairRefusal w h depth a b ≡ 0 → RowCases (seen (whole w h) a b) lag
+lag-h-rho-sums a b w h lag depth e = row-cases _ lag (limited (pair-seen w h depth a b e))
 
 module _ (s : Shape) (a b c d : List ℕ) where
-  abbrev lumaPlane : List ℕ → List ℕ → Pair
-  lumaPlane x y = pair x y (s .width) (s .height)
-
-  pub film-grain-probe-sums : gateRefusal s Y a b c d ≡ 0 → LumaSums (lumaPlane a b) (lumaPlane c d)
+  pub film-grain-probe-sums : gateRefusal s Y a b c d ≡ 0 → LumaCases (seen (viewOf s Y) a b) (seen (viewOf s Y) c d)
   film-grain-probe-sums e =
-      let k = gate-call s Y a b c d e in
-      let S : Low (lumaPlane a b) = accepted-samples _ _ _ a b (k .shape .size) (k .first) (k .second) in
-      let T : Low (lumaPlane c d) = accepted-samples _ _ _ c d (k .shape .size) (k .third) (k .fourth) in
-      record { planes = pair-sums (lumaPlane a b) (lumaPlane c d) refl refl S T; row = lagged-case (lumaPlane a b) (lumaPlane a b) 1 refl refl S S }
+      let S = limited (first-seen s Y a b c d e) in
+      let T = limited (second-seen s Y a b c d e) in
+      record { planes = pair-cases _ _ refl refl S T; row = lagged-case _ _ 1 refl refl S S }
 
-  abbrev chromaPlane : List ℕ → List ℕ → Pair
-  chromaPlane x y = pair x y (chromaWidth (s .format) (s .width)) (chromaHeight (s .format) (s .height))
-
-  pub chroma-noise-gate-sums : gateRefusal s CbCr a b c d ≡ 0 → ChromaSums (chromaPlane a b) (chromaPlane c d)
+  pub chroma-noise-gate-sums : gateRefusal s CbCr a b c d ≡ 0 → ChromaCases (seen (viewOf s CbCr) a b) (seen (viewOf s CbCr) c d)
   chroma-noise-gate-sums e =
-      let k = gate-call s CbCr a b c d e in
-      let n = chroma-small (s .format) _ _ (k .shape .size) in
-      let S : Low (chromaPlane a b) = accepted-samples _ _ _ a b n (k .first) (k .second) in
-      let T : Low (chromaPlane c d) = accepted-samples _ _ _ c d n (k .third) (k .fourth) in
-      record { planes = pair-sums (chromaPlane a b) (chromaPlane c d) refl refl S T; row = row-sums (chromaPlane a b) 1 S }
+      let S = limited (first-seen s CbCr a b c d e) in
+      let T = limited (second-seen s CbCr a b c d e) in
+      record { planes = pair-cases _ _ refl refl S T; row = row-cases _ 1 S }

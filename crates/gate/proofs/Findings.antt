@@ -1,42 +1,39 @@
 -- What each gate finds, from the tests that its code makes: one law for each way through. Assumes nothing.
-use mathlib.Core.Path.{_≡_, _∙_, ap}
+use mathlib.Core.Path.{_≡_, sym, _∙_}
 use mathlib.Core.Bool.{Bool, true, false, cond}
 use mathlib.Core.List.{List}
 use Prim.Native.Nat.{ℕ, _*_, _<_, _≤_}
-use lib.ListN.{length}
-use lib.Ieee.{Float, binary64, div, mul, le, lt}
+use lib.Ieee.{Float, binary64, div, le}
 use borrow.Author.Tests.{lt-ltb, le-ltb, eq-eqb, ne-eqb}
+use Rattle.laws.specs.Constants.{threeQuarters}
 use Rattle.laws.specs.Scaled.{plusZero}
+use Rattle.frame.specs.View.{viewed}
+use Rattle.frame.specs.declared.view.View.{View}
+use Rattle.frame.proofs.Viewed.{viewed-length}
 use Rattle.float.specs.Magnitude.{magnitudeOf}
-use Rattle.float.specs.Root.{root}
 use Rattle.float.specs.Steps.{sigma16Of}
 use Rattle.noise.specs.Products.{Pair}
 use Rattle.noise.specs.Steps.{dotF, lagF}
 use Rattle.noise.proofs.Steps.{lag-window}
 use Rattle.profile.specs.Steps.{planeSquares, planeSigma16}
 use Rattle.gate.specs.RowCorrelation.{rowCorrelation}
-use Rattle.gate.specs.Tests.{rowBound, timeBound, temporal, secondFinding, lumaRow, lumaFinding, chromaFinding}
+use Rattle.gate.specs.Tests.{timeTest, temporal, secondFinding, lumaRow, lumaFinding, chromaFinding}
 use Rattle.gate.specs.declared.finding.Finding.{Finding}
 use Rattle.gate.specs.declared.finding.Finding.the-variants.{LowSigma, EmptyPlane, NoEnergyFirst, RowCorrelated, NoEnergySecond, TimeCorrelated, Passed}
-
-temporal-is : (p q : Pair) (cross e₀ e₁ r m : Float) (b : Bool) → cross ≡ dotF p q → e₀ ≡ dotF p p → e₁ ≡ dotF q q → r ≡ root (mul binary64 e₀ e₁)
-    → m ≡ magnitudeOf (div binary64 cross r) → lt m timeBound ≡ b → cond b Passed TimeCorrelated ≡ temporal p q
-unfolding temporal
-temporal-is p q cross e₀ e₁ r m b c x y s a t = rw (← c, ← x, ← y, ← s, ← a, t)
 
 -- the tests on the second frame
 module _ (p q : Pair) (e₁ : Float) (second : e₁ ≡ dotF q q) where
   pub second-none : le e₁ plusZero ≡ true → NoEnergySecond ≡ secondFinding p q
   second-none t = rw (← second, t)
 
-  pub second-is : le e₁ plusZero ≡ false → (cross e₀ r m : Float) (b : Bool) → cross ≡ dotF p q → e₀ ≡ dotF p p → r ≡ root (mul binary64 e₀ e₁)
-      → m ≡ magnitudeOf (div binary64 cross r) → lt m timeBound ≡ b → cond b Passed TimeCorrelated ≡ secondFinding p q
-  second-is some cross e₀ r m b c x s a t = rw (← second, some) (temporal-is p q cross e₀ e₁ r m b c x second s a t)
+  pub second-is : le e₁ plusZero ≡ false → {cross e₀ : Float} (b : Bool) → cross ≡ dotF p q → e₀ ≡ dotF p p → b ≡ timeTest cross e₀ e₁ → cond b Passed TimeCorrelated ≡ secondFinding p q
+  unfolding temporal
+  second-is some b c x t = rw (← second, some, ← c, ← x, t)
 
--- sigma16, from the sum of squares
-pub sigma-is : (shift : ℕ) (s d : List ℕ) {squares sigma16 : ℕ} → squares ≡ planeSquares shift s d → sigma16 ≡ sigma16Of squares (length s) → sigma16 ≡ planeSigma16 shift s d
+-- sigma16, from the sum of squares and the number of samples
+pub sigma-is : (v : View) (shift : ℕ) (s d : List ℕ) {squares count sigma16 : ℕ} → squares ≡ planeSquares shift (viewed v s) (viewed v d) → count ≡ v .width * v .height → sigma16 ≡ sigma16Of squares count → sigma16 ≡ planeSigma16 shift (viewed v s) (viewed v d)
 unfolding planeSigma16
-sigma-is shift s d e t = t ∙ ap (λ (sq : ℕ). sigma16Of sq (length s)) e
+sigma-is v shift s d e n t = t ∙ (λ i. sigma16Of (e i) ((n ∙ sym (viewed-length v s)) i))
 
 -- the luma gate, n the sigma16
 module _ (sigma16 : ℕ) (p q : Pair) (n : ℕ) (is : n ≡ sigma16) where
@@ -54,11 +51,11 @@ module _ (sigma16 : ℕ) (p q : Pair) (n : ℕ) (is : n ≡ sigma16) where
       unfolding lumaRow
       row = size ∙ (λ i. magnitudeOf (div binary64 ((lagged ∙ lag-window p 1) i) (first i)))
 
-      pub luma-row : le rowBound m ≡ true → RowCorrelated ≡ lumaFinding sigma16 p q
+      pub luma-row : le threeQuarters m ≡ true → RowCorrelated ≡ lumaFinding sigma16 p q
       unfolding lumaFinding
       luma-row t = rw (← is, le-ltb n 16 high, ← first, some, ← row, t)
 
-      pub luma-last : le rowBound m ≡ false → (f : Finding) → f ≡ secondFinding p q → f ≡ lumaFinding sigma16 p q
+      pub luma-last : le threeQuarters m ≡ false → (f : Finding) → f ≡ secondFinding p q → f ≡ lumaFinding sigma16 p q
       unfolding lumaFinding
       luma-last apart f e = rw (← is, le-ltb n 16 high, ← first, some, ← row, apart) e
 
@@ -74,11 +71,11 @@ module _ (sigma16 : ℕ) (p q : Pair) where
     chroma-empty z = rw (le-ltb sigma16 8 high, eq-eqb (p .width * p .height) 0 z)
 
     module _ (filled : p .width * p .height ≡ 0 → ⊥) (m : Float) (row : m ≡ magnitudeOf (rowCorrelation p 1)) where
-      pub chroma-row : le rowBound m ≡ true → RowCorrelated ≡ chromaFinding sigma16 p q
+      pub chroma-row : le threeQuarters m ≡ true → RowCorrelated ≡ chromaFinding sigma16 p q
       unfolding chromaFinding
       chroma-row t = rw (le-ltb sigma16 8 high, ne-eqb (p .width * p .height) 0 filled, ← row, t)
 
-      module _ (apart : le rowBound m ≡ false) (e₀ : Float) (first : e₀ ≡ dotF p p) where
+      module _ (apart : le threeQuarters m ≡ false) (e₀ : Float) (first : e₀ ≡ dotF p p) where
         pub chroma-first : le e₀ plusZero ≡ true → NoEnergyFirst ≡ chromaFinding sigma16 p q
         unfolding chromaFinding
         chroma-first t = rw (le-ltb sigma16 8 high, ne-eqb (p .width * p .height) 0 filled, ← row, apart, ← first, t)

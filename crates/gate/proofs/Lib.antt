@@ -1,8 +1,8 @@
 pub mod PlaneSums
-pub mod Accepted
 pub mod Rows
 pub mod Findings
 pub mod Answers
+pub mod Whole
 pub mod Yes
 pub mod PlusZero
 pub mod Energy

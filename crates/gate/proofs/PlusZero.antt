@@ -9,8 +9,9 @@ use lib.Ieee.{Float, le, ofBits}
 use borrow.Author.Tests.{le-leb, eq-eqb}
 use Rattle.laws.specs.Scaled.{plusZero, ofScaled}
 use Rattle.laws.proofs.Scaled.{scaled-zero}
-use Rattle.noise.specs.Lines.{Plane}
-use Rattle.noise.specs.Products.{Pair, pair}
+use Rattle.frame.specs.declared.view.View.{View}
+use Rattle.noise.specs.Seen.{seen, Seen}
+use Rattle.noise.specs.Products.{Pair}
 use Rattle.noise.proofs.Steps.{laggedSum}
 use Rattle.gate.specs.RowCorrelation.{energyF, rowCorrelation}
 use Rattle.gate.proofs.PlaneSums.{energy-is}
@@ -40,7 +41,6 @@ module _ (p : Pair) (lag : ℕ) where
   unfolding rowCorrelation le ofBits
   still e = rw e (either (eqb lag 0 || (leb (p .width) lag || eqb (p .height) 0)) plusZero)
 
--- the exact energy of a plane is 0
-pub energy-zero : (w h lag : ℕ) (s d : List ℕ) → w ≤ 4096 → h ≤ 4096 → Plane w h s d → laggedSum (pair s d w h) (pair s d w h) 0 ≡ pos 0 → rowCorrelation (pair s d w h) lag ≡ plusZero
-energy-zero w h lag s d narrow short P z =
-    still (pair s d w h) lag (energy-is w h narrow short s d P ∙ ap (ofScaled 0) z ∙ scaled-zero 0)
+-- the exact energy of what a view shows is 0
+pub energy-zero : {v : View} {s d : List ℕ} (lag : ℕ) → Seen v s d → laggedSum (seen v s d) (seen v s d) 0 ≡ pos 0 → rowCorrelation (seen v s d) lag ≡ plusZero
+energy-zero {v} {s} {d} lag S z = still (seen v s d) lag (energy-is S ∙ ap (ofScaled 0) z ∙ scaled-zero 0)

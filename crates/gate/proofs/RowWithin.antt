@@ -15,14 +15,14 @@ use Rattle.laws.proofs.Scaled.{scaled-int, scaled-zero}
 use Rattle.laws.proofs.Sums.{sum-bound, sum-nonneg}
 use Rattle.laws.proofs.Whole.{abs-mul-le, square-nonneg}
 use Rattle.frame.specs.Calls.{pairRefusal}
-use Rattle.frame.proofs.Accepted.{pair-call}
-use Rattle.noise.specs.Noise.{noise, place}
-use Rattle.noise.specs.Lines.{Plane}
-use Rattle.noise.specs.Products.{pair}
+use Rattle.frame.specs.View.{whole}
+use Rattle.frame.specs.declared.view.View.{View}
+use Rattle.noise.specs.Products.{Pair}
+use Rattle.noise.specs.Seen.{seen, noiseOf, Seen}
 use Rattle.noise.specs.Steps.{lagF}
 use Rattle.noise.proofs.Steps.{laggedSum}
-use Rattle.noise.proofs.Grids.{plane-noise-le}
-use Rattle.noise.proofs.Accepted.{plane-of}
+use Rattle.noise.proofs.Seen.{plane-noise-le, seen-plane}
+use Rattle.noise.proofs.SeenCalls.{pair-seen}
 use Rattle.gate.specs.RowCorrelation.{energyF, rowCorrelation}
 use Rattle.gate.specs.Answers.{rho, rhoAnswer}
 use Rattle.gate.specs.declared.Rho.the-variants.{Value}
@@ -39,27 +39,30 @@ whole-abs : (z : ℤ) → pos 0 ≤ℤ z → z ≡ pos (natAbs z)
 whole-abs (pos n) h = refl
 whole-abs (negsuc n) h = absurd (h .le)
 
-module _ (w h lag : ℕ) (s d : List ℕ) (narrow : w ≤ 4096) (short : h ≤ 4096) (P : Plane w h s d) where
+module _ {v : View} {s d : List ℕ} (S : Seen v s d) (lag : ℕ) where
+  abbrev p : Pair
+  p = seen v s d
+
   abbrev x : ℕ → ℕ → ℤ
-  x r c = noise s d (place w r c)
+  x r c = noiseOf p r c
 
   abbrev squares : ℤ
-  squares = sumTo (λ r. sumTo (λ c. x r c *ℤ x r c) w) h
+  squares = sumTo (λ r. sumTo (λ c. x r c *ℤ x r c) (v .width)) (v .height)
 
   -- the energy, as a number that is not negative
-  energy : energyF (pair s d w h) ≡ ofScaled 0 (pos (natAbs squares))
+  energy : energyF p ≡ ofScaled 0 (pos (natAbs squares))
   energy =
-      energy-is w h narrow short s d P
-      ∙ (λ i. ofScaled 0 (sumTo (λ r. sumTo (λ c. x r c *ℤ noise s d (place w r (add-zero c i))) (sub-zero w i)) h))
-      ∙ ap (ofScaled 0) (whole-abs squares (sum-nonneg (λ r. sumTo (λ c. x r c *ℤ x r c) w) h (λ r l. sum-nonneg (λ c. x r c *ℤ x r c) w (λ c m. square-nonneg (x r c)))))
+      energy-is S
+      ∙ (λ i. ofScaled 0 (sumTo (λ r. sumTo (λ c. x r c *ℤ x r (add-zero c i)) (sub-zero (v .width) i)) (v .height)))
+      ∙ ap (ofScaled 0) (whole-abs squares (sum-nonneg (λ r. sumTo (λ c. x r c *ℤ x r c) (v .width)) (v .height) (λ r l. sum-nonneg (λ c. x r c *ℤ x r c) (v .width) (λ c m. square-nonneg (x r c)))))
 
   small : natAbs squares ≤ 2 ^ 53
   small =
-      le-trans (sum-bound (λ r. sumTo (λ c. x r c *ℤ x r c) w) (w * (4095 * 4095)) h
-      (λ r l. sum-bound (λ c. x r c *ℤ x r c) (4095 * 4095) w (λ c m. abs-mul-le (x r c) (x r c) 4095 4095 (plane-noise-le P r c l m) (plane-noise-le P r c l m))))
-      (le-trans (mul-le-mul short (mul-le-mul narrow (le-refl (4095 * 4095)))) (lit≤ tt))
+      le-trans (sum-bound (λ r. sumTo (λ c. x r c *ℤ x r c) (v .width)) (v .width * (4095 * 4095)) (v .height)
+      (λ r l. sum-bound (λ c. x r c *ℤ x r c) (4095 * 4095) (v .width) (λ c m. abs-mul-le (x r c) (x r c) 4095 4095 (plane-noise-le (seen-plane S) r c l m) (plane-noise-le (seen-plane S) r c l m))))
+      (le-trans (mul-le-mul (S .low) (mul-le-mul (S .narrow) (le-refl (4095 * 4095)))) (lit≤ tt))
 
-  some : le (energyF (pair s d w h)) plusZero ≡ false → 0 < natAbs squares
+  some : le (energyF p) plusZero ≡ false → 0 < natAbs squares
   unfolding le ofBits
   some t = go (natAbs squares) (ap (λ (e : Float). le e plusZero) (sym energy) ∙ t)
     where
@@ -67,18 +70,18 @@ module _ (w h lag : ℕ) (s d : List ℕ) (narrow : w ≤ 4096) (short : h ≤ 4
       go zero t = absurd (false≢true (sym t ∙ ap (λ (e : Float). le e plusZero) (scaled-zero 0)))
       go (suc n) t = omega arith
 
-  quotient : lag < w → le (energyF (pair s d w h)) plusZero ≡ false → AtMostOne (div binary64 (lagF (pair s d w h) lag) (energyF (pair s d w h)))
+  quotient : lag < v .width → le (energyF p) plusZero ≡ false → AtMostOne (div binary64 (lagF p lag) (energyF p))
   quotient l t =
-      let a = laggedSum (pair s d w h) (pair s d w h) lag in
-      subst AtMostOne (λ i. div binary64 ((scaled-int a ∙ lagged-is w h narrow short s d lag a P refl) i) (sym energy i))
-      (quotient-within a (natAbs squares) (some t) small (lagged-within x h w lag (omega arith)))
+      let a = laggedSum p p lag in
+      subst AtMostOne (λ i. div binary64 ((scaled-int a ∙ lagged-is S lag refl) i) (sym energy i))
+      (quotient-within a (natAbs squares) (some t) small (lagged-within x (v .height) (v .width) lag (omega arith)))
 
-  pub row-within : AtMostOne (rowCorrelation (pair s d w h) lag)
+  pub row-within : AtMostOne (rowCorrelation p lag)
   unfolding rowCorrelation
-  row-within = go (eqb lag 0) (leb w lag) (eqb h 0) (le (energyF (pair s d w h)) plusZero) (nleb→lt w lag) refl
+  row-within = go (eqb lag 0) (leb (v .width) lag) (eqb (v .height) 0) (le (energyF p) plusZero) (nleb→lt (v .width) lag) refl
     where
-      go : (a b c t : Bool) → (T (not b) → lag < w) → le (energyF (pair s d w h)) plusZero ≡ t
-          → AtMostOne (cond (a || (b || c)) plusZero (cond t plusZero (div binary64 (lagF (pair s d w h) lag) (energyF (pair s d w h)))))
+      go : (a b c t : Bool) → (T (not b) → lag < v .width) → le (energyF p) plusZero ≡ t
+          → AtMostOne (cond (a || (b || c)) plusZero (cond t plusZero (div binary64 (lagF p lag) (energyF p))))
       go true b c t l e = nothing-within
       go false true c t l e = nothing-within
       go false false true t l e = nothing-within
@@ -90,9 +93,8 @@ pub answer-within : (s d : List ℕ) (w h lag depth : ℕ) (x : Float) → rhoAn
 unfolding rhoAnswer
 answer-within s d w h lag depth x e = go (pairRefusal w h depth s d) refl e
   where
-    go : (n : ℕ) → pairRefusal w h depth s d ≡ n → rho n (rowCorrelation (pair s d w h) lag) ≡ Value x → AtMostOne x
+    go : (n : ℕ) → pairRefusal w h depth s d ≡ n → rho n (rowCorrelation (seen (whole w h) s d) lag) ≡ Value x → AtMostOne x
     go zero a v =
-        let k = pair-call w h depth s d a in
-        let f : rowCorrelation (pair s d w h) lag ≡ x = cc in
-        subst AtMostOne f (row-within w h lag s d (k .size .wide) (k .size .high) (plane-of w h depth s d (k .first) (k .second)))
+        let f : rowCorrelation (seen (whole w h) s d) lag ≡ x = cc in
+        subst AtMostOne f (row-within (pair-seen w h depth s d a) lag)
     go (suc n) a v = let z : _≡_ {A = ℕ} 0 1 = cc in absurd (omega arith)

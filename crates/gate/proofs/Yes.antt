@@ -6,19 +6,22 @@ use Prim.Native.Nat.{ℕ, zero, suc, _-_, _*_}
 use lib.Dec.{ltb, eqb}
 use lib.Ieee.{le}
 use borrow.Author.Tests.{le-ltb, ltb-false, ne-eqb, eqb-false}
+use Rattle.laws.specs.Constants.{threeQuarters}
 use Rattle.laws.specs.Scaled.{plusZero}
-use Rattle.frame.specs.Size.{chromaWidth, chromaHeight}
+use Rattle.frame.specs.View.{viewed}
+use Rattle.frame.specs.Planes.{viewOf}
 use Rattle.frame.specs.Questions.{accepted}
 use Rattle.frame.specs.Calls.{gateRefusal}
 use Rattle.frame.specs.declared.Shape.{Shape}
 use Rattle.frame.specs.declared.view.Component.the-variants.{Y, CbCr}
 use Rattle.float.specs.Magnitude.{magnitudeOf}
-use Rattle.noise.specs.Products.{Pair, pair}
+use Rattle.noise.specs.Products.{Pair}
+use Rattle.noise.specs.Seen.{seen}
 use Rattle.noise.specs.Steps.{dotF}
 use Rattle.profile.specs.Steps.{planeSigma16}
 use Rattle.gate.specs.RowCorrelation.{rowCorrelation}
-use Rattle.gate.specs.Tests.{rowBound, temporal, lumaRow, lumaFinding, chromaFinding, isPassed}
-use Rattle.gate.specs.Answers.{lumaAnswer, chromaAnswer}
+use Rattle.gate.specs.Tests.{temporal, lumaRow, lumaFinding, lumaOf, chromaFinding, isPassed}
+use Rattle.gate.specs.Answers.{refusedGate, foundGate, lumaAnswer, chromaAnswer}
 use Rattle.gate.specs.Passes.{LumaPasses, ChromaPasses}
 use Rattle.gate.specs.declared.finding.Finding.{Finding}
 use Rattle.gate.specs.declared.finding.Finding.the-variants.{LowSigma, EmptyPlane, NoEnergyFirst, RowCorrelated, NoEnergySecond, TimeCorrelated, Passed}
@@ -38,7 +41,7 @@ module _ (sigma16 : ℕ) (p q : Pair) where
   luma-yes e =
       let a = after (ltb sigma16 16) LowSigma _ refl e in
       let b = after (le (dotF p p) plusZero) NoEnergyFirst _ refl (a .1) in
-      let c = after (le rowBound (magnitudeOf (lumaRow p))) RowCorrelated _ refl (b .1) in
+      let c = after (le threeQuarters (magnitudeOf (lumaRow p))) RowCorrelated _ refl (b .1) in
       let d = after (le (dotF q q) plusZero) NoEnergySecond _ refl (c .1) in
       record { sigma = ltb-false sigma16 16 (a .0); first = b .0; row = c .0; second = d .0; time = last _ (d .1) }
 
@@ -51,7 +54,7 @@ module _ (sigma16 : ℕ) (p q : Pair) where
   chroma-yes e =
       let a = after (ltb sigma16 8) LowSigma _ refl e in
       let n = after (eqb (p .width * p .height) 0) EmptyPlane _ refl (a .1) in
-      let c = after (le rowBound (magnitudeOf (rowCorrelation p 1))) RowCorrelated _ refl (n .1) in
+      let c = after (le threeQuarters (magnitudeOf (rowCorrelation p 1))) RowCorrelated _ refl (n .1) in
       let b = after (le (dotF p p) plusZero) NoEnergyFirst _ refl (c .1) in
       let d = after (le (dotF q q) plusZero) NoEnergySecond _ refl (b .1) in
       record { sigma = ltb-false sigma16 8 (a .0); filled = eqb-false (p .width * p .height) 0 (n .0); row = c .0; first = b .0; second = d .0; time = last _ (d .1) }
@@ -61,29 +64,29 @@ module _ (sigma16 : ℕ) (p q : Pair) where
   chroma-passes t = rw (le-ltb sigma16 8 (t .sigma), ne-eqb (p .width * p .height) 0 (t .filled), t .row, t .first, t .second, t .time)
 
 -- ---- the calls
-yes-of : (n : ℕ) (b : Bool) → accepted n b false ≡ true → (n ≡ 0) × (b ≡ true)
-yes-of zero b e = (refl, e)
-yes-of (suc n) b e = absurd (false≢true e)
+yes-of : (n : ℕ) (f : Finding) → accepted n (foundGate f) (refusedGate n) .yes ≡ true → (n ≡ 0) × (isPassed f ≡ true)
+yes-of zero f e = (refl, e)
+yes-of (suc n) f e = absurd (false≢true e)
 
 module _ (s : Shape) (a b c d : List ℕ) where
-  abbrev lumaPlane : List ℕ → List ℕ → Pair
-  lumaPlane x y = pair x y (s .width) (s .height)
+  abbrev LumaTests : Type 0
+  LumaTests = let v = viewOf s Y in LumaPasses (planeSigma16 (s .depth - 8) (viewed v a) (viewed v b)) (seen v a b) (seen v c d)
 
-  pub film-grain-probe-yes : lumaAnswer s a b c d .yes ≡ true → (gateRefusal s Y a b c d ≡ 0) × LumaPasses (planeSigma16 (s .depth - 8) a b) (lumaPlane a b) (lumaPlane c d)
+  pub film-grain-probe-yes : lumaAnswer s a b c d .yes ≡ true → (gateRefusal s Y a b c d ≡ 0) × LumaTests
   unfolding lumaAnswer
-  film-grain-probe-yes e = let p = yes-of (gateRefusal s Y a b c d) _ e in (p .0, luma-yes _ _ _ (p .1))
+  film-grain-probe-yes e = let p = yes-of (gateRefusal s Y a b c d) (let v = viewOf s Y in lumaOf (s .depth - 8) (seen v a b) (seen v c d)) e in (p .0, luma-yes _ _ _ (p .1))
 
-  pub film-grain-probe-passes : gateRefusal s Y a b c d ≡ 0 → LumaPasses (planeSigma16 (s .depth - 8) a b) (lumaPlane a b) (lumaPlane c d) → lumaAnswer s a b c d .yes ≡ true
+  pub film-grain-probe-passes : gateRefusal s Y a b c d ≡ 0 → LumaTests → lumaAnswer s a b c d .yes ≡ true
   unfolding lumaAnswer
   film-grain-probe-passes e t = rw e (luma-passes _ _ _ t)
 
-  abbrev chromaPlane : List ℕ → List ℕ → Pair
-  chromaPlane x y = pair x y (chromaWidth (s .format) (s .width)) (chromaHeight (s .format) (s .height))
+  abbrev ChromaTests : ℕ → Type 0
+  ChromaTests sigma16 = let v = viewOf s CbCr in ChromaPasses sigma16 (seen v a b) (seen v c d)
 
-  pub chroma-noise-gate-yes : (sigma16 : ℕ) → chromaAnswer s a b c d sigma16 .yes ≡ true → (gateRefusal s CbCr a b c d ≡ 0) × ChromaPasses sigma16 (chromaPlane a b) (chromaPlane c d)
+  pub chroma-noise-gate-yes : (sigma16 : ℕ) → chromaAnswer s a b c d sigma16 .yes ≡ true → (gateRefusal s CbCr a b c d ≡ 0) × ChromaTests sigma16
   unfolding chromaAnswer
-  chroma-noise-gate-yes sigma16 e = let p = yes-of (gateRefusal s CbCr a b c d) _ e in (p .0, chroma-yes _ _ _ (p .1))
+  chroma-noise-gate-yes sigma16 e = let p = yes-of (gateRefusal s CbCr a b c d) (let v = viewOf s CbCr in chromaFinding sigma16 (seen v a b) (seen v c d)) e in (p .0, chroma-yes _ _ _ (p .1))
 
-  pub chroma-noise-gate-passes : (sigma16 : ℕ) → gateRefusal s CbCr a b c d ≡ 0 → ChromaPasses sigma16 (chromaPlane a b) (chromaPlane c d) → chromaAnswer s a b c d sigma16 .yes ≡ true
+  pub chroma-noise-gate-passes : (sigma16 : ℕ) → gateRefusal s CbCr a b c d ≡ 0 → ChromaTests sigma16 → chromaAnswer s a b c d sigma16 .yes ≡ true
   unfolding chromaAnswer
   chroma-noise-gate-passes sigma16 e t = rw e (chroma-passes _ _ _ t)

@@ -2,26 +2,26 @@
 use mathlib.Core.Path.{_≡_}
 use mathlib.Core.Bool.{true, false}
 use Prim.Native.Nat.{ℕ, _*_, _≤_}
-use lib.Ieee.{binary64, div, mul, le, lt}
+use lib.Ieee.{le}
+use Rattle.laws.specs.Constants.{threeQuarters}
 use Rattle.laws.specs.Scaled.{plusZero}
 use Rattle.float.specs.Magnitude.{magnitudeOf}
-use Rattle.float.specs.Root.{root}
 use Rattle.noise.specs.Products.{Pair}
 use Rattle.noise.specs.Steps.{dotF}
 use Rattle.gate.specs.RowCorrelation.{rowCorrelation}
-use Rattle.gate.specs.Tests.{rowBound, timeBound, lumaRow}
+use Rattle.gate.specs.Tests.{timeTest, lumaRow}
 
 pub record LumaPasses (sigma16 : ℕ) (p q : Pair) : Type 0 where
   pub sigma : 16 ≤ sigma16
   pub first : le (dotF p p) plusZero ≡ false
-  pub row : le rowBound (magnitudeOf (lumaRow p)) ≡ false
+  pub row : le threeQuarters (magnitudeOf (lumaRow p)) ≡ false
   pub second : le (dotF q q) plusZero ≡ false
-  pub time : lt (magnitudeOf (div binary64 (dotF p q) (root (mul binary64 (dotF p p) (dotF q q))))) timeBound ≡ true
+  pub time : timeTest (dotF p q) (dotF p p) (dotF q q) ≡ true
 
 pub record ChromaPasses (sigma16 : ℕ) (p q : Pair) : Type 0 where
   pub sigma : 8 ≤ sigma16
   pub filled : p .width * p .height ≡ 0 → ⊥
-  pub row : le rowBound (magnitudeOf (rowCorrelation p 1)) ≡ false
+  pub row : le threeQuarters (magnitudeOf (rowCorrelation p 1)) ≡ false
   pub first : le (dotF p p) plusZero ≡ false
   pub second : le (dotF q q) plusZero ≡ false
-  pub time : lt (magnitudeOf (div binary64 (dotF p q) (root (mul binary64 (dotF p p) (dotF q q))))) timeBound ≡ true
+  pub time : timeTest (dotF p q) (dotF p p) (dotF q q) ≡ true

@@ -4,26 +4,25 @@
 use mathlib.Core.Bool.{Bool, true, false, cond}
 use Prim.Native.Nat.{ℕ, _-_, _*_}
 use lib.Dec.{ltb, eqb}
-use lib.Ieee.{Float, binary64, div, mul, le, lt, ofBits}
+use lib.Ieee.{Float, binary64, div, mul, le, lt}
+use Rattle.laws.specs.Constants.{threeQuarters, twoFifths}
 use Rattle.laws.specs.Scaled.{plusZero}
 use Rattle.float.specs.Magnitude.{magnitudeOf}
 use Rattle.float.specs.Root.{root}
 use Rattle.noise.specs.Products.{Pair, own, onward}
 use Rattle.noise.specs.Steps.{windowF, dotF}
+use Rattle.profile.specs.Steps.{planeSigma16}
 use Rattle.gate.specs.RowCorrelation.{rowCorrelation}
 use Rattle.gate.specs.declared.finding.Finding.{Finding}
 use Rattle.gate.specs.declared.finding.Finding.the-variants.{LowSigma, EmptyPlane, NoEnergyFirst, RowCorrelated, NoEnergySecond, TimeCorrelated, Passed}
 
--- 0.75 and 0.4
-abbrev pub rowBound : Float
-rowBound = ofBits binary64 0x3fe8_0000_0000_0000
-
-abbrev pub timeBound : Float
-timeBound = ofBits binary64 0x3fd9_9999_9999_999a
-
 -- `(cross / (e0 * e1).sqrt()).abs() < 0.4`
+unfoldable pub timeTest : Float → Float → Float → Bool
+timeTest cross e₀ e₁ = lt (magnitudeOf (div binary64 cross (root (mul binary64 e₀ e₁)))) twoFifths
+
+-- of two planes, `e0`, `e1` and `cross` by `dot`
 unfoldable pub temporal : Pair → Pair → Finding
-temporal p q = cond (lt (magnitudeOf (div binary64 (dotF p q) (root (mul binary64 (dotF p p) (dotF q q))))) timeBound) Passed TimeCorrelated
+temporal p q = cond (timeTest (dotF p q) (dotF p p) (dotF q q)) Passed TimeCorrelated
 
 -- the second's energy 0, then the test
 abbrev pub secondFinding : Pair → Pair → Finding
@@ -38,15 +37,19 @@ unfoldable pub lumaFinding : ℕ → Pair → Pair → Finding
 lumaFinding sigma16 p q =
     cond (ltb sigma16 16) LowSigma
     (cond (le (dotF p p) plusZero) NoEnergyFirst
-    (cond (le rowBound (magnitudeOf (lumaRow p))) RowCorrelated
+    (cond (le threeQuarters (magnitudeOf (lumaRow p))) RowCorrelated
     (secondFinding p q)))
+
+-- with the sigma16 of the first, its noise shifted
+abbrev pub lumaOf : ℕ → Pair → Pair → Finding
+lumaOf shift p q = lumaFinding (planeSigma16 shift (p .source) (p .denoised)) p q
 
 -- the chroma gate
 unfoldable pub chromaFinding : ℕ → Pair → Pair → Finding
 chromaFinding sigma16 p q =
     cond (ltb sigma16 8) LowSigma
     (cond (eqb (p .width * p .height) 0) EmptyPlane
-    (cond (le rowBound (magnitudeOf (rowCorrelation p 1))) RowCorrelated
+    (cond (le threeQuarters (magnitudeOf (rowCorrelation p 1))) RowCorrelated
     (cond (le (dotF p p) plusZero) NoEnergyFirst
     (secondFinding p q))))
 

@@ -1,13 +1,12 @@
 // The tests of the gates, in their order: each gate ends at the first that fails.
 use crate::row_correlation::correlation_of;
 use crate::sums;
+use frame::View;
 ghost use mathlib.Core.Path.{_≡_};
 ghost use Prim.Native.Nat.{_<_, _≤_};
-ghost use Rattle.noise.specs.Lines.{Plane};
-ghost use Rattle.noise.specs.Products.{pair};
+ghost use Rattle.noise.specs.Seen.{seen, Seen};
 ghost use Rattle.noise.specs.Steps.{dotF};
-ghost use Rattle.profile.specs.Steps.{planeSigma16};
-ghost use Rattle.gate.specs.Tests.{secondFinding, lumaFinding, chromaFinding, isPassed};
+ghost use Rattle.gate.specs.Tests.{timeTest, secondFinding, lumaOf, chromaFinding, isPassed};
 
 // What a gate finds: the first test that fails, or that all passed.
 pub enum Finding {
@@ -20,6 +19,7 @@ pub enum Finding {
     Passed,
 }
 
+// Whether all passed.
 pub fn is_passed(f: Finding) -> bool
     ensures { λ r. ⌜ r ≡ isPassed f ⌝ }
 {
@@ -34,26 +34,32 @@ pub fn is_passed(f: Finding) -> bool
     }
 }
 
-// The second's energy, then |Σ n₀ n₁ / √(e₀ e₁)| < 0.4, from the first's.
+// |cross / √(e₀ e₁)| < 0.4
+fn time_test(cross: f64, e0: f64, e1: f64) -> bool
+    ensures { λ r. ⌜ r ≡ timeTest cross e0 e1 ⌝ }
+{
+    float::magnitude(cross / float::sqrt(e0 * e1)) < 0.4
+}
+
+// The second's energy, then the temporal test, from the first's energy.
 fn second_finding(
     src0: &[u16],
     den0: &[u16],
     src1: &[u16],
     den1: &[u16],
-    w: usize,
-    h: usize,
+    view: View,
     e0: f64,
 ) -> Finding
-    requires { ⌜ Plane w h (now src0) (now den0) × Plane w h (now src1) (now den1) × (w ≤ 4096) × (h ≤ 4096) × (e0 ≡ dotF (pair (now src0) (now den0) w h) (pair (now src0) (now den0) w h)) ⌝ }
-    ensures { λ r. ⌜ r ≡ secondFinding (pair (now (src0 .entry)) (now (den0 .entry)) w h) (pair (now (src1 .entry)) (now (den1 .entry)) w h) ⌝ }
+    requires { ⌜ Seen view (now src0) (now den0) × Seen view (now src1) (now den1) × (e0 ≡ dotF (seen view (now src0) (now den0)) (seen view (now src0) (now den0))) ⌝ }
+    ensures { λ r. ⌜ r ≡ secondFinding (seen view (now (src0 .entry)) (now (den0 .entry))) (seen view (now (src1 .entry)) (now (den1 .entry))) ⌝ }
 {
-    let sums = sums::of_pair(src0, den0, src1, den1, w, h);
+    let sums = sums::of_pair(src0, den0, src1, den1, view);
     let e1 = sums.second;
     let cross = sums.cross;
     if e1 <= 0.0 {
         return Finding::NoEnergySecond;
     }
-    if float::magnitude(cross / float::sqrt(e0 * e1)) < 0.4 {
+    if time_test(cross, e0, e1) {
         return Finding::Passed;
     }
     Finding::TimeCorrelated
@@ -65,17 +71,16 @@ pub fn luma_finding(
     den0: &[u16],
     src1: &[u16],
     den1: &[u16],
-    w: usize,
-    h: usize,
+    view: View,
     shift: u32,
 ) -> Finding
-    requires { ⌜ Plane w h (now src0) (now den0) × Plane w h (now src1) (now den1) × (w ≤ 4096) × (h ≤ 4096) × (1 ≤ w) × (shift < 16) ⌝ }
-    ensures { λ r. ⌜ r ≡ lumaFinding (planeSigma16 shift (now (src0 .entry)) (now (den0 .entry))) (pair (now (src0 .entry)) (now (den0 .entry)) w h) (pair (now (src1 .entry)) (now (den1 .entry)) w h) ⌝ }
+    requires { ⌜ Seen view (now src0) (now den0) × Seen view (now src1) (now den1) × (1 ≤ view .width) × (shift < 16) ⌝ }
+    ensures { λ r. ⌜ r ≡ lumaOf shift (seen view (now (src0 .entry)) (now (den0 .entry))) (seen view (now (src1 .entry)) (now (den1 .entry))) ⌝ }
 {
-    let sums = sums::of_plane(src0, den0, w, h, 1, shift);
+    let sums = sums::of_plane(src0, den0, view, 1, shift);
     let e0 = sums.energy;
     let lagged = sums.lagged;
-    let sigma16 = float::sigma16(sums.squares, src0.len() as u64);
+    let sigma16 = float::sigma16(sums.squares, sums::samples(view) as u64);
     if sigma16 < 16 {
         return Finding::LowSigma;
     }
@@ -85,7 +90,7 @@ pub fn luma_finding(
     if float::magnitude(lagged / e0) >= 0.75 {
         return Finding::RowCorrelated;
     }
-    second_finding(src0, den0, src1, den1, w, h, e0)
+    second_finding(src0, den0, src1, den1, view, e0)
 }
 
 // The chroma gate's first failing test.
@@ -95,26 +100,25 @@ pub fn chroma_finding(
     den0: &[u16],
     src1: &[u16],
     den1: &[u16],
-    w: usize,
-    h: usize,
+    view: View,
 ) -> Finding
-    requires { ⌜ Plane w h (now src0) (now den0) × Plane w h (now src1) (now den1) × (w ≤ 4096) × (h ≤ 4096) ⌝ }
-    ensures { λ r. ⌜ r ≡ chromaFinding sigma16 (pair (now (src0 .entry)) (now (den0 .entry)) w h) (pair (now (src1 .entry)) (now (den1 .entry)) w h) ⌝ }
+    requires { ⌜ Seen view (now src0) (now den0) × Seen view (now src1) (now den1) ⌝ }
+    ensures { λ r. ⌜ r ≡ chromaFinding sigma16 (seen view (now (src0 .entry)) (now (den0 .entry))) (seen view (now (src1 .entry)) (now (den1 .entry))) ⌝ }
 {
     if sigma16 < 8 {
         return Finding::LowSigma;
     }
-    if src0.len() == 0 {
+    if sums::samples(view) == 0 {
         return Finding::EmptyPlane;
     }
-    let sums = sums::of_plane(src0, den0, w, h, 1, 0);
+    let sums = sums::of_plane(src0, den0, view, 1, 0);
     let e0 = sums.energy;
     let lagged = sums.lagged;
-    if float::magnitude(correlation_of(w, h, 1, e0, lagged)) >= 0.75 {
+    if float::magnitude(correlation_of(view.width, view.height, 1, e0, lagged)) >= 0.75 {
         return Finding::RowCorrelated;
     }
     if e0 <= 0.0 {
         return Finding::NoEnergyFirst;
     }
-    second_finding(src0, den0, src1, den1, w, h, e0)
+    second_finding(src0, den0, src1, den1, view, e0)
 }

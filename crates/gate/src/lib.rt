@@ -3,10 +3,12 @@ mod finding;
 mod row_correlation;
 mod sums;
 
+use finding::Finding;
 use frame::Component;
 use frame::Shape;
+use frame::View;
 ghost use mathlib.Core.Path.{_≡_};
-ghost use Rattle.gate.specs.Answers.{rhoAnswer, lumaAnswer, chromaAnswer};
+ghost use Rattle.gate.specs.Answers.{rhoAnswer, refusedGate, foundGate, lumaAnswer, chromaAnswer};
 
 // What the row correlation answers: the number of a refusal, or an f64 from -1 to 1.
 pub enum Rho {
@@ -36,57 +38,58 @@ pub fn lag_h_rho(
     if n != 0 {
         return Rho::Refused(n);
     }
-    Rho::Value(row_correlation::row_correlation(src, den, width, height, lag))
+    let view = View::whole(width, height);
+    Rho::Value(row_correlation::row_correlation(src, den, view, lag))
 }
 
-// Whether the luma of two frames carries grain: the tests of the luma gate, in their order.
-pub fn film_grain_probe(s: Shape, y0: &[u16], d0: &[u16], y1: &[u16], d1: &[u16]) -> Gate
-    ensures { λ r. ⌜ r ≡ lumaAnswer s (now (y0 .entry)) (now (d0 .entry)) (now (y1 .entry)) (now (d1 .entry)) ⌝ }
+// The answer of a gate that is refused: its number, and no.
+fn refused_gate(n: u32) -> Gate
+    ensures { λ r. ⌜ r ≡ refusedGate n ⌝ }
 {
-    let n = frame::gate_refusal(s, Component::Y, y0, d0, y1, d1);
-    if n != 0 {
-        return Gate {
-            refusal: n,
-            yes: false,
-        };
+    Gate {
+        refusal: n,
+        yes: false,
     }
-    let shift = (s.depth - 8) as u32;
-    let found = finding::luma_finding(y0, d0, y1, d1, s.width, s.height, shift);
+}
+
+// The answer of a gate that is accepted: yes if every test passed.
+fn found_gate(found: Finding) -> Gate
+    ensures { λ r. ⌜ r ≡ foundGate found ⌝ }
+{
     Gate {
         refusal: 0,
         yes: finding::is_passed(found),
     }
+}
+
+// Whether the luma of two frames carries grain: the tests of the luma gate, in their order.
+pub fn film_grain_probe(s: Shape, src0: &[u16], den0: &[u16], src1: &[u16], den1: &[u16]) -> Gate
+    ensures { λ r. ⌜ r ≡ lumaAnswer s (now (src0 .entry)) (now (den0 .entry)) (now (src1 .entry)) (now (den1 .entry)) ⌝ }
+{
+    let n = frame::gate_refusal(s, Component::Y, src0, den0, src1, den1);
+    if n != 0 {
+        return refused_gate(n);
+    }
+    let view = s.view(Component::Y);
+    let shift = (s.depth - 8) as u32;
+    found_gate(finding::luma_finding(src0, den0, src1, den1, view, shift))
 }
 
 // Whether one chroma component of two frames carries grain: the tests of the chroma gate, in their order.
 pub fn chroma_noise_gate(
     s: Shape,
-    c0: &[u16],
-    d0: &[u16],
-    c1: &[u16],
-    d1: &[u16],
+    src0: &[u16],
+    den0: &[u16],
+    src1: &[u16],
+    den1: &[u16],
     sigma16: u64,
 ) -> Gate
-    ensures { λ r. ⌜ r ≡ chromaAnswer s (now (c0 .entry)) (now (d0 .entry)) (now (c1 .entry)) (now (d1 .entry)) sigma16 ⌝ }
+    ensures { λ r. ⌜ r ≡ chromaAnswer s (now (src0 .entry)) (now (den0 .entry)) (now (src1 .entry)) (now (den1 .entry)) sigma16 ⌝ }
 {
-    let n = frame::gate_refusal(s, Component::CbCr, c0, d0, c1, d1);
+    let n = frame::gate_refusal(s, Component::CbCr, src0, den0, src1, den1);
     if n != 0 {
-        return Gate {
-            refusal: n,
-            yes: false,
-        };
+        return refused_gate(n);
     }
-    let found = finding::chroma_finding(
-        sigma16,
-        c0,
-        d0,
-        c1,
-        d1,
-        s.chroma_width(),
-        s.chroma_height(),
-    );
-    Gate {
-        refusal: 0,
-        yes: finding::is_passed(found),
-    }
+    let view = s.view(Component::CbCr);
+    found_gate(finding::chroma_finding(sigma16, src0, den0, src1, den1, view))
 }

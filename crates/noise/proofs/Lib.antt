@@ -16,6 +16,7 @@ pub mod NoiseSums
 pub mod NoiseLines
 pub mod Seen
 pub mod RowSums
+pub mod SeenCalls
 pub mod Quarters
 pub mod Averages
 pub mod Over

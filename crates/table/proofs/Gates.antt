@@ -3,6 +3,7 @@ use mathlib.Core.Path.{refl}
 use lib.Ieee.{add, sub, mul, div, le, lt, ofInt, ofBits, toUnsigned}
 use Rattle.table.specs.Cases.{Right}
 use Rattle.frame.specs.Size.{chromaWidth, chromaHeight}
+use Rattle.frame.specs.View.{viewed}
 use Rattle.frame.specs.Questions.{each, low, allLow}
 use Rattle.frame.specs.Calls.{shapeNumbers, gateNumbers, gateRefusal}
 use Rattle.float.specs.Magnitude.{magnitudeOf}
@@ -12,7 +13,7 @@ use Rattle.noise.specs.Steps.{windowF, dotF, lagF}
 use Rattle.profile.specs.Steps.{planeSigma16, planeSquares}
 use Rattle.gate.specs.RowCorrelation.{energyF, rowCorrelation}
 use Rattle.gate.specs.Answers.{lumaAnswer, chromaAnswer}
-use Rattle.gate.specs.Tests.{temporal, lumaRow, lumaFinding, chromaFinding}
+use Rattle.gate.specs.Tests.{timeTest, temporal, lumaRow, lumaFinding, chromaFinding}
 use Rattle.table.specs.Gates.{lumaFound, chromaFound, rowFound, cases, rowCases}
 
 pub row-cases-right : Right rowFound rowCases
@@ -20,9 +21,9 @@ unfolding rowCorrelation energyF windowF lagF add sub mul div le ofInt ofBits
 row-cases-right = (refl, (refl, (refl, tt)))
 
 pub luma-cases-right : Right lumaFound cases
-unfolding lumaAnswer gateRefusal gateNumbers shapeNumbers each low allLow lumaFinding temporal lumaRow magnitudeOf root planeSigma16 planeSquares sigma16Of windowF dotF add sub mul div le lt ofInt ofBits toUnsigned
+unfolding lumaAnswer viewed gateRefusal gateNumbers shapeNumbers each low allLow lumaFinding temporal timeTest lumaRow magnitudeOf root planeSigma16 planeSquares sigma16Of windowF dotF add sub mul div le lt ofInt ofBits toUnsigned
 luma-cases-right = (refl, (refl, (refl, (refl, tt))))
 
 pub chroma-cases-right : Right chromaFound cases
-unfolding chromaAnswer gateRefusal gateNumbers shapeNumbers chromaWidth chromaHeight each low allLow chromaFinding temporal rowCorrelation energyF lagF magnitudeOf root planeSigma16 planeSquares sigma16Of windowF dotF add sub mul div le lt ofInt ofBits toUnsigned
+unfolding chromaAnswer viewed gateRefusal gateNumbers shapeNumbers chromaWidth chromaHeight each low allLow chromaFinding temporal timeTest rowCorrelation energyF lagF magnitudeOf root planeSigma16 planeSquares sigma16Of windowF dotF add sub mul div le lt ofInt ofBits toUnsigned
 chroma-cases-right = (refl, (refl, (refl, (refl, tt))))

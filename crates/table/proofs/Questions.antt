@@ -4,15 +4,15 @@ use Rattle.table.specs.Cases.{Right}
 use Rattle.frame.specs.Size.{chromaWidth, chromaHeight}
 use Rattle.frame.specs.Questions.{each, low, allLow}
 use Rattle.frame.specs.Calls.{planeNumbers, pairNumbers, shapeNumbers, frameNumbers, gateNumbers, copyQuestions, planeRefusal, pairRefusal, frameRefusal, fitRefusal, gateRefusal, denoiseFrameRefusal}
-use Rattle.table.specs.Questions.{plane, planeCases, deepPlane, deepPlaneCases, frame, frameCases, fit, fitCases, denoiseFrame, denoiseFrameCases, lumaGate, lumaGateCases, chromaGate, chromaGateCases, order, orderCases, bits, bitsCases}
+use Rattle.table.specs.Questions.{plane, planeCases, pair, pairCases, frame, frameCases, fit, fitCases, denoiseFrame, denoiseFrameCases, lumaGate, lumaGateCases, chromaGate, chromaGateCases, order, orderCases, bits, bitsCases}
 
 pub planes-right : Right plane planeCases
 unfolding planeRefusal planeNumbers each
 planes-right = (refl, (refl, (refl, (refl, (refl, (refl, (refl, tt)))))))
 
-pub deep-planes-right : Right deepPlane deepPlaneCases
+pub pairs-right : Right pair pairCases
 unfolding pairRefusal pairNumbers each allLow low
-deep-planes-right = (refl, (refl, (refl, (refl, (refl, (refl, (refl, (refl, (refl, (refl, (refl, (refl, tt))))))))))))
+pairs-right = (refl, (refl, (refl, (refl, (refl, (refl, (refl, (refl, (refl, (refl, (refl, (refl, tt))))))))))))
 
 pub frames-right : Right frame frameCases
 unfolding frameRefusal copyQuestions frameNumbers shapeNumbers chromaWidth chromaHeight each allLow low

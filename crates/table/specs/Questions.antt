@@ -24,11 +24,11 @@ planeCases =
     row (3, 2, 6, 7) 5 ∷ []
 
 -- width, height, depth, the samples of the plane and of its copy
-abbrev pub deepPlane : ℕ × ℕ × ℕ × List ℕ × List ℕ → ℕ
-deepPlane (w, h, depth, a, b) = pairRefusal w h depth a b
+abbrev pub pair : ℕ × ℕ × ℕ × List ℕ × List ℕ → ℕ
+pair (w, h, depth, a, b) = pairRefusal w h depth a b
 
-abbrev pub deepPlaneCases : List (Case (ℕ × ℕ × ℕ × List ℕ × List ℕ) ℕ)
-deepPlaneCases =
+abbrev pub pairCases : List (Case (ℕ × ℕ × ℕ × List ℕ × List ℕ) ℕ)
+pairCases =
     row (0, 0, 8, [], []) 0 ∷
     row (4097, 1, 9, [], []) 1 ∷
     row (2, 1, 9, [], []) 3 ∷
@@ -54,14 +54,15 @@ flat n = replicate n 0
 abbrev pub high : ℕ → List ℕ
 high n = replicate (n - 1) 0 ++ (256 ∷ [])
 
-abbrev pub Planes : Type 0
-Planes = List ℕ × List ℕ × List ℕ
+-- Y, Cb and Cr
+abbrev pub Three : Type 0
+Three = List ℕ × List ℕ × List ℕ
 
 -- a frame and its copy
-abbrev pub frame : Shape × Planes × Planes → ℕ
-frame (s, (y, cb, cr), (y′, cb′, cr′)) = frameRefusal s y cb cr y′ cb′ cr′
+abbrev pub frame : Shape × Three × Three → ℕ
+frame (s, (y, cb, cr), (y-denoised, cb-denoised, cr-denoised)) = frameRefusal s y cb cr y-denoised cb-denoised cr-denoised
 
-abbrev pub frameCases : List (Case (Shape × Planes × Planes) ℕ)
+abbrev pub frameCases : List (Case (Shape × Three × Three) ℕ)
 frameCases =
     row (shape 4097 1 9 4, ([], [], []), ([], [], [])) 1 ∷
     row (shape 0 1 9 4, ([], [], []), ([], [], [])) 2 ∷
@@ -83,21 +84,21 @@ frameCases =
     row (shape 3 3 8 1, (flat 9, flat 4, flat 4), (flat 9, high 4, flat 4)) 6 ∷
     row (shape 3 3 8 1, (flat 9, flat 4, flat 4), (flat 9, flat 4, high 4)) 6 ∷ []
 
--- the same with a lag
-abbrev pub fit : Shape × Planes × Planes × ℕ → ℕ
-fit (s, (y, cb, cr), (y′, cb′, cr′), lag) = fitRefusal s y cb cr y′ cb′ cr′ lag
+-- a frame, its copy and a lag
+abbrev pub fit : Shape × Three × Three × ℕ → ℕ
+fit (s, (y, cb, cr), (y-denoised, cb-denoised, cr-denoised), lag) = fitRefusal s y cb cr y-denoised cb-denoised cr-denoised lag
 
-abbrev pub fitCases : List (Case (Shape × Planes × Planes × ℕ) ℕ)
+abbrev pub fitCases : List (Case (Shape × Three × Three × ℕ) ℕ)
 fitCases =
     row (shape 1 1 8 0, (flat 1, [], []), (flat 1, [], []), 3) 0 ∷
     row (shape 1 1 8 0, (flat 1, [], []), (flat 1, [], []), 4) 7 ∷
     row (shape 1 1 8 0, (flat 1, [], []), (high 1, [], []), 4) 6 ∷ []
 
 -- a frame and the lengths of its destinations
-abbrev pub denoiseFrame : Shape × Planes × (ℕ × ℕ × ℕ) → ℕ
-denoiseFrame (s, (y, cb, cr), (dy, dcb, dcr)) = denoiseFrameRefusal s y cb cr dy dcb dcr
+abbrev pub denoiseFrame : Shape × Three × (ℕ × ℕ × ℕ) → ℕ
+denoiseFrame (s, (y, cb, cr), (to-y, to-cb, to-cr)) = denoiseFrameRefusal s y cb cr to-y to-cb to-cr
 
-abbrev pub denoiseFrameCases : List (Case (Shape × Planes × (ℕ × ℕ × ℕ)) ℕ)
+abbrev pub denoiseFrameCases : List (Case (Shape × Three × (ℕ × ℕ × ℕ)) ℕ)
 denoiseFrameCases =
     row (shape 3 3 8 1, (flat 9, flat 4, flat 4), (9, 4, 4)) 0 ∷
     row (shape 3 3 8 1, (flat 9, flat 4, high 4), (9, 4, 4)) 6 ∷

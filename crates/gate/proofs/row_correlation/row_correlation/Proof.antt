@@ -1,4 +1,4 @@
--- `gate::correlations::row_correlation`: the sums, then the quotient. Assumes nothing.
+-- `gate::row_correlation::row_correlation`: the sums, then the quotient. Assumes nothing.
 use borrow.Author.Needs.{needs}
 use Rattle.gate.proofs.Rows.{unlagged, narrow, row-is}
 use Rattle.gate.proofs.row_correlation.row_correlation.Statement.{statement}
@@ -8,12 +8,12 @@ returns : tie.Need-returns
 returns c = unlagged _ _ (c .if1 .taken)
 
 returns-2 : tie.Need-returns-2
-returns-2 c = narrow _ _ (c .before .if1 .left) (c .if2 .taken)
+returns-2 c = narrow _ _ (c .before .before .if1 .left) (c .if2 .taken)
 
 returns-3 : tie.Need-returns-3
 returns-3 c =
     let s = c .before .of-plane .ensures in
-    row-is _ _ (s .1) (s .2) (c .correlation-of .ensures)
+    row-is _ _ (s .energy) (s .lagged) (c .correlation-of .ensures)
 
 pub row-correlation-spec : {M : Type 1} → statement M
 row-correlation-spec =

@@ -4,32 +4,37 @@ use borrow.Author.Needs.{needs}
 use lib.IntN.{pos, natAbs}
 use mir.Syntax.{w64}
 use mir.Val.{ofZ, toZ}
+use Rattle.laws.proofs.Is.{again, self}
+use Rattle.frame.specs.View.{viewed}
 use Rattle.profile.specs.Steps.{planeSquares}
-use Rattle.gate.proofs.PlaneSums.{squares-read, squares-fit, dot-read, lagged-read}
+use Rattle.gate.proofs.PlaneSums.{squares-are, held-fits, dot-is, lagged-is}
 use Rattle.gate.proofs.sums.of_plane.Statement.{statement}
 use Rattle.gate.proofs.sums.of_plane.Tie as tie
 
-squares : (c : tie.After-struct-told3) → let A = c .before .before .before .before .before .before .before .before .before .args in
-    toZ w64 (ofZ w64 (c .before .before .before .before .before .before .plane-sums .result .squares)) ≡ pos (planeSquares (A .shift) (A .src .now) (A .den .now))
-squares c =
-    let S = c .before .before .before .before .before .before .before .before .before in
-    squares-read (S .args .w) (S .args .h) (S .pre .1) (S .pre .2) (S .pre .0) (S .args .shift) _ (c .before .before .before .before .before .before .plane-sums .ensures .0)
+-- the squares, exactly and as they are read back
+module _ (c : tie.After-struct-told3) where
+  squares : let A = c .before .before .before .before .before .before .before .before .before .args in
+      c .before .before .before .before .before .before .plane-sums .result .squares ≡ pos (planeSquares (A .shift) (viewed (A .view) (A .src .now)) (viewed (A .view) (A .den .now)))
+  squares =
+      let A = c .before .before .before .before .before .before .before .before .before .args in
+      squares-are (A .view) (A .src .now) (A .den .now) (A .shift) (c .before .before .before .before .before .before .plane-sums .ensures .squares)
 
-cast-t10 : tie.Need-cast-t10
-cast-t10 c =
-    let S = c .before .before .before .before .before .before .before .before .before in
-    rw (squares c) (tt, squares-fit (S .args .w) (S .args .h) (S .pre .1) (S .pre .2) (S .pre .0) (S .args .shift))
+  read : let A = c .before .before .before .before .before .before .before .before .before .args in
+      toZ w64 (ofZ w64 (c .before .before .before .before .before .before .plane-sums .result .squares)) ≡ pos (planeSquares (A .shift) (viewed (A .view) (A .src .now)) (viewed (A .view) (A .den .now)))
+  read = again (self (record { sfits = search needs })) .eq ∙ squares
+
+cast-t9 : tie.Need-cast-t9
+cast-t9 c = rw (read c) (tt, held-fits (search needs) (squares c))
 
 returns : tie.Need-returns
 returns c =
     let S = c .before .before .before .before .before .before .before .before .before in
-    let A = S .args in
-    let P = S .pre .0 in
-    let r = c .before .before .before .before .before .before .plane-sums .ensures in (
-      ap natAbs (squares c),
-      c .before .before .before .before .nearest-i64-to-f64 .ensures ∙ dot-read (A .w) (A .h) (S .pre .1) (S .pre .2) P P _ (r .1),
-      c .before .before .nearest-i64-to-f642 .ensures ∙ lagged-read (A .w) (A .h) (S .pre .1) (S .pre .2) P (A .lag) _ (S .pre .3) (r .2),
-    )
+    let r = c .before .before .before .before .before .before .plane-sums .ensures in
+    record {
+      squares = ap natAbs (read c);
+      energy = c .before .before .before .before .nearest-i64-to-f64 .ensures ∙ dot-is (S .pre .0) (S .pre .0) (again (self (record { sfits = search needs })) .eq ∙ r .energy);
+      lagged = c .before .before .nearest-i64-to-f642 .ensures ∙ lagged-is (S .pre .0) (S .args .lag) (again (self (record { sfits = search needs })) .eq ∙ r .lagged);
+    }
 
 pub of-plane-spec : {M : Type 1} → statement M
 of-plane-spec =
@@ -38,5 +43,5 @@ of-plane-spec =
     (λ c κs. search needs)
     (λ c κs. search needs)
     (λ c κs. search needs)
-    cast-t10
+    cast-t9
     returns)
