@@ -1,37 +1,52 @@
--- A line of a chroma row's luma averages: its numbers, their size, and the sums of their products with another line. Assumes nothing.
+-- A line of a chroma row's luma averages: its numbers, their size, and the sum of their squares. Assumes nothing.
 use mathlib.Core.Path.{_≡_, sym, ap, _∙_}
 use mathlib.Core.List.{List}
-use Prim.Native.Nat.{ℕ, _+_, _^_, _≤_, _<_}
-use native.Mathlib.Nat.{le-trans, le-of-eq, lt-of-le-of-lt, lt-of-lt-of-le}
+use Prim.Native.Nat.{ℕ, _+_, _≤_, _<_}
+use native.Mathlib.Nat.{le-trans, le-of-eq}
 use native.Mathlib.Omega.{arith}
-use lib.Dec.{lit<}
-use lib.IntN.{ℤ, natAbs}
+use lib.IntN.{ℤ}
+use lib.ListN.{length}
 use Rattle.laws.specs.Table.{tabulate}
-use Rattle.noise.specs.Lines.{at}
-use Rattle.noise.specs.Average.{Luma, subX, quarters}
-use Rattle.noise.specs.Quarters.{columns}
-use Rattle.noise.proofs.Averages.{quarters-le}
+use Rattle.frame.specs.Size.{sampled}
+use Rattle.frame.specs.declared.view.Geometry.{Geometry}
+use Rattle.noise.specs.Lines.{at, AtMost}
+use Rattle.noise.specs.Seen.{Seen, Over}
+use Rattle.noise.specs.Average.{lumaSeen, quarters}
+use Rattle.noise.proofs.Over.{average-le}
 use Rattle.noise.proofs.LineSums.{entry, size}
-use Rattle.normal.specs.Starts.{startSum, Small}
-use Rattle.normal.specs.Calls.{LumaOver}
-use Rattle.normal.proofs.StartSums.{start-ext}
+use Rattle.normal.specs.Starts.{startSum, averageLimit, Overlap}
+use Rattle.normal.specs.Taps.{AverageRoom}
+use Rattle.normal.proofs.Overlaps.{start-ext}
+use Rattle.normal.proofs.RowLines.{at-most}
 
-module _ (l : Luma) {cw ch : ℕ} (O : LumaOver l cw ch) (r : ℕ) (in-rows : r < ch) where
-  pub average-le : (c : ℕ) → c < cw → natAbs (quarters l r c) ≤ 16380
-  average-le c k = quarters-le l (O .plane) r (O .rows-in r in-rows) c (lt-of-lt-of-le k (le-of-eq (O .columns-are)))
+pub averages-small : {g : Geometry} {source denoised : List ℕ} → Over g → Seen (g .luma) source denoised → {r : ℕ} → r < g .chroma .height
+    → {p : List ℤ} → p ≡ tabulate (g .chroma .width) (quarters (lumaSeen g source denoised) r) → AtMost averageLimit p
+averages-small O S l e = at-most _ averageLimit _ e (average-le O S l)
+
+module _ {g : Geometry} {source denoised : List ℕ} {r n lag sums averages : ℕ} (A : AverageRoom g source denoised r n lag sums averages) where
+  abbrev average : ℕ → ℤ
+  average = quarters (lumaSeen g source denoised) r
 
   -- as the line is filled, and as it is counted here
-  pub averages-are : {p : List ℤ} → p ≡ tabulate (columns (subX (l .format)) (l .width)) (quarters l r) → p ≡ tabulate cw (quarters l r)
-  averages-are e = e ∙ ap (λ (n : ℕ). tabulate n (quarters l r)) (sym (O .columns-are))
+  pub averages-are : {p : List ℤ} → p ≡ tabulate (sampled (g .sampling .across) (g .luma .width)) average → p ≡ tabulate (g .chroma .width) average
+  averages-are e = e ∙ ap (λ (m : ℕ). tabulate m average) (sym (A .over .columns (omega (arith, A .row))))
 
-  module _ {p : List ℤ} (e : p ≡ tabulate cw (quarters l r)) where
-    pub averages-small : Small (2 ^ 14) p
-    averages-small i h =
-        let k = lt-of-lt-of-le h (le-of-eq (size cw (quarters l r) e)) in
-        lt-of-le-of-lt (le-trans (le-of-eq (ap natAbs (entry cw (quarters l r) e i k))) (average-le i k)) (lit< tt)
+  module _ {p : List ℤ} (e : p ≡ tabulate (g .chroma .width) average) where
+    long : lag + n ≤ length p
+    long = le-trans (A .columns) (le-of-eq (sym (size (g .chroma .width) average e)))
 
-    pub squares-are : (n a : ℕ) → a + n ≤ cw → startSum (at p) (at p) n a a ≡ startSum (quarters l r) (quarters l r) n a a
-    squares-are n a h = start-ext (at p) (at p) n a a (quarters l r) (quarters l r) one one
+    pub averages-overlap : Overlap averageLimit averageLimit p p n lag lag
+    averages-overlap =
+        record {
+          up-long = long;
+          lo-long = long;
+          few = A .few;
+          up-small = averages-small (A .over) (A .luma) (A .row) e;
+          lo-small = averages-small (A .over) (A .luma) (A .row) e;
+        }
+
+    pub averages-squares : startSum (at p) (at p) n lag lag ≡ startSum average average n lag lag
+    averages-squares = start-ext (at p) (at p) n lag lag average average one one
       where
-        one : (x : ℕ) → x < n → at p (a + x) ≡ quarters l r (a + x)
-        one x k = entry cw (quarters l r) e (a + x) (omega arith)
+        one : (x : ℕ) → x < n → at p (lag + x) ≡ average (lag + x)
+        one x k = entry (g .chroma .width) average e (lag + x) (omega (arith, A .columns))

@@ -1,110 +1,51 @@
--- Sums over a fit's window: how large they are, the sample as its own last neighbour, two factors exchanged, and the window as rows lag to h and columns lag to w - lag. Assumes nothing.
-use mathlib.Core.Path.{_≡_, refl, ap, _∙_}
+-- How large the sums of a fit are: every one is a whole number, or one of quarters or of sixteenths, that an f64 holds. Assumes nothing.
 use mathlib.Core.List.{List}
-use Prim.Native.Nat.{ℕ, _+_, _-_, _*_, _/_, _%_, _^_, _≤_, _<_}
-use native.Mathlib.Nat.{le-trans, lt-of-lt-of-le, mul-le-mul, div-lt-iff-lt-mul, mod-lt}
+use Prim.Native.Nat.{ℕ, _+_, _-_, _*_, _^_, _≤_, _<_}
+use native.Mathlib.Nat.{le-trans, mul-le-mul, le-refl}
 use native.Mathlib.Omega.{arith}
-use lib.Arith.{digits-div, digits-mod}
 use lib.Dec.{lit≤}
-use lib.IntN.{ℤ, natAbs, _*ℤ_, *ℤ-comm}
-use Rattle.laws.specs.Sums.{span}
-use Rattle.laws.proofs.Sums.{sum-ext, sum-bound}
-use Rattle.laws.proofs.Whole.{abs-mul-le}
-use Rattle.noise.specs.Average.{Luma, quarters}
-use Rattle.noise.specs.Grids.{Rows, noiseAt}
-use Rattle.noise.specs.declared.rows.Grid.{Grid}
-use Rattle.noise.proofs.Lines.{noise-le}
-use Rattle.positions.specs.Counts.{side, neighbours, factors}
-use Rattle.positions.proofs.Counts.{factors-le, factors-rows}
+use lib.IntN.{natAbs}
+use Rattle.laws.specs.Limits.{sideLimit}
+use Rattle.frame.specs.declared.view.View.{View}
+use Rattle.frame.specs.declared.view.Geometry.{Geometry}
+use Rattle.noise.specs.Noise.{noiseOf}
+use Rattle.noise.specs.Lines.{noiseLimit}
+use Rattle.noise.specs.Seen.{Seen, Over, seen}
+use Rattle.noise.specs.Average.{lumaSeen, quarters}
+use Rattle.noise.proofs.Seen.{seen-plane, plane-noise-le}
+use Rattle.noise.proofs.Over.{average-le}
+use Rattle.positions.specs.Counts.{factors}
 use Rattle.normal.specs.Normal.{Picture, neighbour, windowSum, entry, tapEntry, tapSquare}
-use Rattle.normal.specs.Calls.{Window, LumaOver}
-use Rattle.normal.proofs.AverageRows.{average-le}
+use Rattle.normal.specs.Calls.{Window}
+use Rattle.normal.specs.Starts.{averageLimit}
+use Rattle.normal.proofs.Windows.{InWindow, window-bound, neighbour-row, neighbour-column}
 
--- two pictures that are at most c and d in size where the window is
-pub window-bound : (w h lag c d : ℕ) (f g : Picture)
-    → ((y x : ℕ) → lag ≤ y → y < h → lag ≤ x → x < w - lag → natAbs (f y x) ≤ c)
-    → ((y x : ℕ) → lag ≤ y → y < h → lag ≤ x → x < w - lag → natAbs (g y x) ≤ d)
-    → natAbs (windowSum w h lag f g) ≤ (h - lag) * ((w - 2 * lag) * (c * d))
-unfolding windowSum
-window-bound w h lag c d f g p q =
-    sum-bound _ ((w - 2 * lag) * (c * d)) (h - lag) (λ y l.
-    sum-bound _ (c * d) (w - 2 * lag) (λ x k.
-    let a : lag ≤ lag + y = omega arith in
-    let b : lag + y < h = omega arith in
-    let e : lag ≤ lag + x = omega arith in
-    let r : lag + x < w - lag = omega arith in
-    abs-mul-le (f (lag + y) (lag + x)) (g (lag + y) (lag + x)) c d (p (lag + y) (lag + x) a b e r) (q (lag + y) (lag + x) a b e r)))
-
-pub window-swap : (w h lag : ℕ) (f g : Picture) → windowSum w h lag f g ≡ windowSum w h lag g f
-unfolding windowSum
-window-swap w h lag f g =
-    sum-ext _ _ (h - lag) (λ y l. sum-ext _ _ (w - 2 * lag) (λ x k. *ℤ-comm (f (lag + y) (lag + x)) (g (lag + y) (lag + x))))
-
--- as a sum over rows lag to h and columns lag to w - lag
-pub window-rows : (w h lag : ℕ) (f g : Picture) → windowSum w h lag f g ≡ span (λ y. span (λ x. f y x *ℤ g y x) lag (w - lag - lag)) lag (h - lag)
-unfolding windowSum
-window-rows w h lag f g = let e : w - 2 * lag ≡ w - lag - lag = omega arith in ap (λ (n : ℕ). span (λ y. span (λ x. f y x *ℤ g y x) lag n) lag (h - lag)) e
-
--- pictures that are the same where the window is
-pub window-ext : (w h lag : ℕ) (f f′ g g′ : Picture)
-    → ((y x : ℕ) → lag ≤ y → lag ≤ x → f y x ≡ f′ y x) → ((y x : ℕ) → lag ≤ y → lag ≤ x → g y x ≡ g′ y x)
-    → windowSum w h lag f g ≡ windowSum w h lag f′ g′
-unfolding windowSum
-window-ext w h lag f f′ g g′ p q =
-    sum-ext _ _ (h - lag) (λ y l. sum-ext _ _ (w - 2 * lag) (λ x k t. p (lag + y) (lag + x) (from y) (from x) t *ℤ q (lag + y) (lag + x) (from y) (from x) t))
-  where
-    from : (z : ℕ) → lag ≤ lag + z
-    from z = omega arith
-
--- the sample itself
-pub sample-last : (f : Picture) (lag y x : ℕ) → lag ≤ y → lag ≤ x → neighbour f lag (neighbours lag) y x ≡ f y x
-sample-last f lag y x h k =
-    let e : neighbours lag ≡ lag * side lag + lag = omega (arith, factors-rows lag) in
-    let l : lag < side lag = omega arith in
-    let r : y - lag + lag ≡ y = omega arith in
-    let c : x - lag + lag ≡ x = omega arith in
-    ap (λ (i : ℕ). neighbour f lag i y x) e ∙ (λ t. f (y - lag + digits-div lag l t) (x - lag + digits-mod lag l t)) ∙ (λ t. f (r t) (c t))
-
-pub entry-sample : (f : Picture) (w h lag i : ℕ) → entry f w h lag i (neighbours lag) ≡ windowSum w h lag (neighbour f lag i) f
-entry-sample f w h lag i = window-ext w h lag _ _ _ _ (λ y x a b. refl) (λ y x a b. sample-last f lag y x a b)
-
--- a neighbour of a place of the window lies in the plane
-module _ {w h lag : ℕ} (W : Window w h lag) (i : ℕ) (li : i < factors lag) (y x : ℕ) (above : lag ≤ y) (below : y < h) (left : lag ≤ x) (right : x < w - lag) where
-  some : 0 < side lag
-  some = omega arith
-
-  pub neighbour-row : y - lag + i / side lag < h
-  neighbour-row = omega (arith, div-lt-iff-lt-mul some .1 (lt-of-lt-of-le li (factors-le lag)))
-
-  pub neighbour-column : x - lag + i % side lag < w
-  neighbour-column = omega (arith, mod-lt i some)
-
--- ---- how large the sums of a fit are
-module _ {w h lag : ℕ} (W : Window w h lag) where
-  within : (m b : ℕ) → m ≤ b → (h - lag) * ((w - 2 * lag) * m) ≤ 2 ^ 12 * (2 ^ 12 * b)
-  within m b l = mul-le-mul rows (mul-le-mul columns l)
+module _ {v : View} {source denoised : List ℕ} (S : Seen v source denoised) {lag : ℕ} (W : Window (v .width) (v .height) lag) where
+  -- two pictures that are at most c and d in size
+  window-le : (f g : Picture) (c d : ℕ) → ((y x : ℕ) → InWindow (v .width) (v .height) lag y x → natAbs (f y x) ≤ c) → ((y x : ℕ) → InWindow (v .width) (v .height) lag y x → natAbs (g y x) ≤ d)
+      → natAbs (windowSum (v .width) (v .height) lag f g) ≤ sideLimit * (sideLimit * (c * d))
+  window-le f g c d p q = le-trans (window-bound (v .width) (v .height) lag f g c d p q) (mul-le-mul rows (mul-le-mul columns (le-refl (c * d))))
     where
-      rows : h - lag ≤ 2 ^ 12
-      rows = omega (arith, W .low)
+      rows : v .height - lag ≤ sideLimit
+      rows = omega (arith, S .low)
 
-      columns : w - 2 * lag ≤ 2 ^ 12
-      columns = omega (arith, W .narrow)
+      columns : v .width - 2 * lag ≤ sideLimit
+      columns = omega (arith, S .narrow)
 
-  module _ {source denoised : List ℕ} (g : Grid) (R : Rows source denoised g h w) where
-    noise-small : (i : ℕ) → i < factors lag → (y x : ℕ) → lag ≤ y → y < h → lag ≤ x → x < w - lag → natAbs (neighbour (noiseAt source denoised g) lag i y x) ≤ 4095
-    noise-small i l y x a b c d = noise-le (R _ (neighbour-row W i l y x a b c d)) _ (neighbour-column W i l y x a b c d)
+  noise-small : (i : ℕ) → i < factors lag → (y x : ℕ) → InWindow (v .width) (v .height) lag y x → natAbs (neighbour (noiseOf (seen v source denoised)) lag i y x) ≤ noiseLimit
+  noise-small i l y x p = plane-noise-le (seen-plane S) _ _ (neighbour-row W i l y x p) (neighbour-column W i l y x p)
 
-    pub entry-bound : (i j : ℕ) → i < factors lag → j < factors lag → natAbs (entry (noiseAt source denoised g) w h lag i j) ≤ 2 ^ 48
-    entry-bound i j k l =
-        le-trans (window-bound w h lag 4095 4095 _ _ (noise-small i k) (noise-small j l)) (le-trans (within (4095 * 4095) (2 ^ 24) (lit≤ tt)) (lit≤ tt))
+  pub entry-bound : (i j : ℕ) → i < factors lag → j < factors lag → natAbs (entry (noiseOf (seen v source denoised)) (v .width) (v .height) lag i j) ≤ 2 ^ 48
+  entry-bound i j k l = le-trans (window-le _ _ noiseLimit noiseLimit (noise-small i k) (noise-small j l)) (lit≤ tt)
 
-    -- with the luma tap
-    pub tap-bound : {l : Luma} → LumaOver l w h → (i : ℕ) → i < factors lag → natAbs (tapEntry (noiseAt source denoised g) (quarters l) w h lag i) ≤ 2 ^ 50
-    tap-bound {l} O i k =
-        le-trans (window-bound w h lag 4095 16380 _ _ (noise-small i k) (λ y x a b c d. average-le l O y b x (omega arith)))
-        (le-trans (within (4095 * 16380) (2 ^ 26) (lit≤ tt)) (lit≤ tt))
+-- ---- with the luma tap
+module _ {g : Geometry} (O : Over g) {y y-denoised : List ℕ} (L : Seen (g .luma) y y-denoised) {source denoised : List ℕ} (S : Seen (g .chroma) source denoised)
+    {lag : ℕ} (W : Window (g .chroma .width) (g .chroma .height) lag) where
+  average-small : (r c : ℕ) → InWindow (g .chroma .width) (g .chroma .height) lag r c → natAbs (quarters (lumaSeen g y y-denoised) r c) ≤ averageLimit
+  average-small r c p = average-le O L (p .below) c (omega (arith, p .right))
 
-  pub square-bound : {l : Luma} → LumaOver l w h → natAbs (tapSquare (quarters l) w h lag) ≤ 2 ^ 52
-  square-bound {l} O =
-      le-trans (window-bound w h lag 16380 16380 _ _ (λ y x a b c d. average-le l O y b x (omega arith)) (λ y x a b c d. average-le l O y b x (omega arith)))
-      (le-trans (within (16380 * 16380) (2 ^ 28) (lit≤ tt)) (lit≤ tt))
+  pub tap-bound : (i : ℕ) → i < factors lag → natAbs (tapEntry (noiseOf (seen (g .chroma) source denoised)) (quarters (lumaSeen g y y-denoised)) (g .chroma .width) (g .chroma .height) lag i) ≤ 2 ^ 50
+  tap-bound i k = le-trans (window-le S W _ _ noiseLimit averageLimit (noise-small S W i k) average-small) (lit≤ tt)
+
+  pub square-bound : natAbs (tapSquare (quarters (lumaSeen g y y-denoised)) (g .chroma .width) (g .chroma .height) lag) ≤ 2 ^ 52
+  square-bound = le-trans (window-le S W _ _ averageLimit averageLimit average-small average-small) (lit≤ tt)

@@ -1,131 +1,131 @@
--- A row's sums with the luma averages, added for each row of neighbours: the state after each, and the room for it. Assumes nothing.
+-- A row's sums with the luma averages, filled for each row of neighbours, the last of which ends with the sample: the state after each. Assumes nothing.
 use mathlib.Core.Path.{_≡_, refl, sym, ap, _∙_, subst}
 use mathlib.Core.List.{List, _++_}
 use mathlib.Core.Logic.{⊎-elim}
-use Prim.Native.Nat.{ℕ, _+_, _-_, _*_, _/_, _%_, _^_, _≤_, _<_, min}
+use Prim.Native.Nat.{ℕ, _+_, _-_, _*_, _^_, _≤_, _<_, min}
 use native.Mathlib.Nat.{le-trans, le-of-eq, lt-of-lt-of-le, mul-le-mul-right, zero-mul, min-eq-left, min-eq-right, min-le-left, min-le-right}
 use native.Mathlib.Omega.{arith}
-use lib.Arith.{digits-div, digits-mod}
 use lib.IntN.{ℤ, natAbs, _+ℤ_}
 use lib.ListN.{length, take, drop}
 use Rattle.laws.specs.Table.{tabulate}
 use Rattle.laws.proofs.Table.{tabulate-same}
 use Rattle.laws.proofs.Order.{lt-or-ge}
+use Rattle.frame.specs.declared.view.View.{View}
 use Rattle.noise.specs.Lines.{at}
-use Rattle.noise.specs.Grids.{noiseAt}
-use Rattle.noise.specs.declared.rows.Grid.{Grid}
+use Rattle.noise.specs.Seen.{noiseAt}
 use Rattle.noise.proofs.LineSums.{entry, size}
 use Rattle.positions.specs.Counts.{side, factors}
 use Rattle.positions.proofs.Counts.{factors-le, factors-rows}
 use Rattle.normal.specs.Normal.{Picture}
-use Rattle.normal.specs.Starts.{startSum, Pair}
-use Rattle.normal.specs.Taps.{TapRoom, TapRow}
-use Rattle.normal.proofs.Stored.{part, part-length, part-at}
-use Rattle.normal.proofs.Squares.{row-end}
-use Rattle.normal.proofs.StartSums.{start-ext}
-use Rattle.normal.proofs.Adding.{Adding, adding-starts, adding-part, adding-ends}
+use Rattle.normal.specs.Starts.{startSum, Noisy}
+use Rattle.normal.specs.Blocks.{Addable}
+use Rattle.normal.specs.Taps.{tapOf, rowTap, plusTaps, TapRow, TapAdd}
+use Rattle.normal.proofs.Stored.{part, part-length}
+use Rattle.normal.proofs.Places.{row-end}
+use Rattle.normal.proofs.Overlaps.{start-ext}
+use Rattle.normal.proofs.Reached.{Reached, reached-starts, reached-ends, part-long}
+use Rattle.normal.proofs.Filling.{filling}
 use Rattle.normal.proofs.RowLines.{line-small}
-use Rattle.normal.proofs.Entries.{window-plot}
 
--- what is added for neighbour i
-abbrev pub gainOf : Picture → ℕ → ℕ → ℕ → List ℤ → ℕ → ℤ
-gainOf f w y lag averages i = startSum (f (y + i / side lag)) (at averages) (w - 2 * lag) (i % side lag) lag
+-- the neighbours of u rows have their sums
+pub record Tapping (f : Picture) (q : ℕ → ℤ) (w lag y : ℕ) (before row : List ℤ) (u : ℕ) : Type 0 where
+  pub sized : length before ≡ factors lag
+  pub reached : Reached (rowTap f q w lag y) before row (min (u * side lag) (factors lag))
 
-module _ {source denoised : List ℕ} {g : Grid} {w y lag : ℕ} {averages taps : List ℤ} (T : TapRow source denoised g w y lag averages taps) where
-  abbrev f : Picture
-  f = noiseAt source denoised g
+pub tapping-starts : (f : Picture) (q : ℕ → ℤ) (w lag y : ℕ) {before : List ℤ} → length before ≡ factors lag → Tapping f q w lag y before before 0
+tapping-starts f q w lag y e = record { sized = e; reached = rw (zero-mul (side lag), min-eq-left none) (reached-starts _ _) }
+  where
+    none : 0 ≤ factors lag
+    none = omega arith
 
-  abbrev n : ℕ
-  n = w - 2 * lag
-
+module _ {f : Picture} {q : ℕ → ℤ} {w lag y : ℕ} {before row : List ℤ} {u : ℕ} (T : Tapping f q w lag y before row u) where
   abbrev s : ℕ
   s = side lag
 
-  abbrev tapGain : ℕ → ℤ
-  tapGain = gainOf f w y lag averages
-
-  pub taps-start : Adding tapGain taps taps (min (0 * s) (length taps))
-  taps-start = subst (λ (m : ℕ). Adding tapGain taps taps m) (sym (ap (λ (m : ℕ). min m (length taps)) (zero-mul s) ∙ min-eq-left (omega arith))) (adding-starts tapGain taps)
-
-  all-in : (u : ℕ) → lag < u → length taps ≤ u * s
-  all-in u h = le-trans (le-of-eq (T .length-taps)) (le-trans (factors-le lag) (mul-le-mul-right s more))
+  pub tapping-ends : lag + 1 ≤ u → row ≡ tabulate (factors lag) (rowTap f q w lag y)
+  tapping-ends h =
+      reached-ends _ before _ (T .reached) (le-of-eq (T .sized ∙ sym (min-eq-right all-in)))
+      ∙ ap (λ (m : ℕ). tabulate m (rowTap f q w lag y)) (T .sized)
     where
-      more : lag + 1 ≤ u
-      more = omega arith
+      all-in : factors lag ≤ u * s
+      all-in = le-trans (factors-le lag) (mul-le-mul-right s h)
 
-  pub taps-end : {sums : List ℤ} (u : ℕ) → lag < u → Adding tapGain taps sums (min (u * s) (length taps)) → sums ≡ tabulate (factors lag) (λ i. at taps i +ℤ tapGain i)
-  taps-end u h A =
-      adding-ends tapGain taps (min (u * s) (length taps)) A (le-of-eq (sym (min-eq-right (all-in u h))))
-      ∙ ap (λ (m : ℕ). tabulate m (λ i. at taps i +ℤ tapGain i)) (T .length-taps)
+  -- ---- neighbours in row u: m of them
+  module _ (hu : u ≤ lag) where
+    pub first-in : u * s ≤ factors lag
+    first-in = omega (arith, mul-le-mul-right s hu, factors-rows lag)
 
-  pub first-in : (u : ℕ) → u ≤ lag → u * s ≤ length taps
-  first-in u hu = omega (arith, mul-le-mul-right s hu, factors-rows lag, T .length-taps)
+    module _ {m : ℕ} (e : m ≡ min s (factors lag - u * s)) where
+      pub part-in : u * s + m ≤ factors lag
+      part-in = omega (arith, first-in, min-le-right s (factors lag - u * s))
 
-  -- ---- neighbours in row u of the square: m of them
-  module _ (u m : ℕ) (hu : u ≤ lag) (e : m ≡ min s (length taps - u * s)) where
-    pub part-in : u * s + m ≤ length taps
-    part-in = omega (arith, first-in u hu, min-le-right s (length taps - u * s))
+      pub columns-in : m ≤ s
+      columns-in = le-trans (le-of-eq e) (min-le-left s (factors lag - u * s))
 
-    columns-in : (c : ℕ) → c < m → c < s
-    columns-in c l = lt-of-lt-of-le l (le-trans (le-of-eq e) (min-le-left s (length taps - u * s)))
+      next : u * s + m ≡ min ((u + 1) * s) (factors lag)
+      next = ⊎-elim short full (lt-or-ge (factors lag - u * s) s)
+        where
+          short : factors lag - u * s < s → u * s + m ≡ min ((u + 1) * s) (factors lag)
+          short l =
+              let a : factors lag - u * s ≤ s = omega arith in
+              let b : factors lag ≤ (u + 1) * s = omega (arith, row-end s u) in
+              ap (λ (k : ℕ). u * s + k) (e ∙ min-eq-right a) ∙ omega (arith, first-in, min-eq-right b)
 
-    here : min (u * s) (length taps) ≡ u * s
-    here = min-eq-left (first-in u hu)
+          full : s ≤ factors lag - u * s → u * s + m ≡ min ((u + 1) * s) (factors lag)
+          full l =
+              let b : (u + 1) * s ≤ factors lag = omega (arith, row-end s u, first-in) in
+              ap (λ (k : ℕ). u * s + k) (e ∙ min-eq-left l) ∙ sym (row-end s u) ∙ sym (min-eq-left b)
 
-    next : u * s + m ≡ min ((u + 1) * s) (length taps)
-    next = ⊎-elim short full (lt-or-ge (length taps - u * s) s)
-      where
-        short : length taps - u * s < s → u * s + m ≡ min ((u + 1) * s) (length taps)
-        short l =
-            let a : length taps - u * s ≤ s = omega arith in
-            let b : length taps ≤ (u + 1) * s = omega (arith, row-end s u) in
-            ap (λ (k : ℕ). u * s + k) (e ∙ min-eq-right a) ∙ omega (arith, first-in u hu, min-eq-right b)
+      here : Reached (rowTap f q w lag y) before row (u * s)
+      here = subst (λ (k : ℕ). Reached (rowTap f q w lag y) before row k) (min-eq-left first-in) (T .reached)
 
-        full : s ≤ length taps - u * s → u * s + m ≡ min ((u + 1) * s) (length taps)
-        full l =
-            let b : (u + 1) * s ≤ length taps = omega (arith, row-end s u, first-in u hu) in
-            ap (λ (k : ℕ). u * s + k) (e ∙ min-eq-left l) ∙ sym (row-end s u) ∙ sym (min-eq-left b)
+      in-before : u * s + m ≤ length before
+      in-before = le-trans part-in (le-of-eq (sym (T .sized)))
 
-    module _ {line : List ℤ} (filled : line ≡ tabulate w (f (y + u))) where
-      line-gain : (c : ℕ) → c < m → startSum (at line) (at averages) n c lag ≡ tapGain (u * s + c)
-      line-gain c l =
-          let k = columns-in c l in
-          start-ext (at line) (at averages) n c lag (f (y + u)) (at averages) (λ x h. entry w (f (y + u)) filled (c + x) (omega (arith, T .window .columns))) (λ x h. refl)
-          ∙ (λ i. startSum (f (y + sym (digits-div u k) i)) (at averages) n (sym (digits-mod u k) i) lag)
+      pub part-end : u * s + m ≤ length row
+      part-end = part-long _ before (u * s) here m in-before
 
-      tap-pair : (c : ℕ) → c < m → Pair line averages n c lag
-      tap-pair c l =
-          let k = columns-in c l in
-          record {
-            up-long = omega (arith, size w (f (y + u)) filled, T .window .columns);
-            lo-long = omega (arith, T .length-averages, T .window .columns);
-            few = omega (arith, T .window .narrow);
-            up-small = line-small (window-plot (T .rows) (T .window)) (y + u) (omega arith) filled;
-            lo-small = T .averages-small;
-          }
+      pub tapping-turn : {new : List ℤ} → new ≡ tabulate m (tapOf f q w lag y u) → Tapping f q w lag y before (take (u * s) row ++ (new ++ drop (u * s + m - u * s) (drop (u * s) row))) (u + 1)
+      tapping-turn {new} d = record { sized = T .sized; reached = rw (sym next) (filling s (tapOf f q w lag y) before u m here columns-in in-before d) }
 
-      module _ {sums : List ℤ} (A : Adding tapGain taps sums (min (u * s) (length taps))) where
-        added : Adding tapGain taps sums (u * s)
-        added = subst (λ (k : ℕ). Adding tapGain taps sums k) here A
+-- ---- a line that holds row y + u
+module _ {v : View} {source denoised : List ℕ} {y lag : ℕ} {averages : List ℤ} {line row : ℕ} (T : TapRow v source denoised y lag averages line row)
+    {u : ℕ} (hu : u ≤ lag) {p : List ℤ} (e : p ≡ tabulate (v .width) (noiseAt source denoised v (y + u))) where
+  abbrev noises : ℕ → ℤ
+  noises = noiseAt source denoised v (y + u)
 
-        long : u * s + m ≤ length sums
-        long = le-trans part-in (le-of-eq (sym (A .same)))
+  pub line-noisy : (c : ℕ) → c < side lag → Noisy p averages (v .width - 2 * lag) c lag
+  line-noisy c l =
+      record {
+        up-long = omega (arith, size (v .width) noises e, T .window .columns);
+        lo-long = omega (arith, T .averages-length, T .window .columns);
+        few = omega (arith, T .seen .narrow);
+        up-small = line-small (T .seen) (y + u) (omega (arith, T .inside)) e;
+        lo-small = T .averages-small;
+      }
 
-        pub tap-room : TapRoom line averages n lag (part sums (u * s) m)
-        tap-room =
-            record {
-              pair = λ c l. tap-pair c (lt-of-lt-of-le l (le-of-eq (part-length sums (u * s) m long)));
-              small = λ c l.
-                  let k = lt-of-lt-of-le l (le-of-eq (part-length sums (u * s) m long)) in
-                  subst (λ (x : ℤ). natAbs x < 2 ^ 63)
-                  (λ i. sym (part-at sums (u * s) m c k ∙ added .rest (u * s + c) (omega arith)) i +ℤ sym (line-gain c k) i)
-                  (T .small (u * s + c) (omega (arith, part-in, T .length-taps)));
-            }
+  pub line-taps : {new : List ℤ} (k m : ℕ) → k ≡ m → m ≤ side lag → new ≡ tabulate k (λ c. startSum (at p) (at averages) (v .width - 2 * lag) c lag)
+      → new ≡ tabulate m (tapOf (noiseAt source denoised v) (at averages) (v .width) lag y u)
+  line-taps k m q l d =
+      d ∙ ap (λ (j : ℕ). tabulate j (λ c. startSum (at p) (at averages) (v .width - 2 * lag) c lag)) q ∙ tabulate-same m _ _ (λ c k.
+      start-ext (at p) (at averages) (v .width - 2 * lag) c lag noises (at averages)
+      (λ x h. entry (v .width) noises e (c + x) (omega (arith, T .window .columns))) (λ x h. refl))
 
-        pub taps-turn : {new : List ℤ} → new ≡ tabulate (length (part sums (u * s) m)) (λ c. at (part sums (u * s) m) c +ℤ startSum (at line) (at averages) n c lag)
-            → Adding tapGain taps (take (u * s) sums ++ (new ++ drop (u * s + m - u * s) (drop (u * s) sums))) (min ((u + 1) * s) (length taps))
-        taps-turn {new} d =
-            subst (λ (k : ℕ). Adding tapGain taps (take (u * s) sums ++ (new ++ drop (u * s + m - u * s) (drop (u * s) sums))) k) next
-            (adding-part tapGain taps (u * s) added m part-in
-            (d ∙ tabulate-same (length (part sums (u * s) m)) _ _ (λ c l.
-            ap (λ (x : ℤ). at (part sums (u * s) m) c +ℤ x) (line-gain c (lt-of-lt-of-le l (le-of-eq (part-length sums (u * s) m long)))))))
+-- ---- a row's sums, added to those of the rows before
+module _ {v : View} {source denoised : List ℕ} {y lag : ℕ} {averages : List ℤ} {line row : ℕ} {taps : List ℤ} (A : TapAdd v source denoised y lag averages line row taps)
+    {r : List ℤ} (e : r ≡ tabulate (factors lag) (rowTap (noiseAt source denoised v) (at averages) (v .width) lag y)) where
+  abbrev gain : ℕ → ℤ
+  gain = rowTap (noiseAt source denoised v) (at averages) (v .width) lag y
+
+  pub taps-addable : Addable taps r
+  taps-addable =
+      record {
+        same = A .taps-length ∙ sym (size (factors lag) gain e);
+        small = λ i h. let l = lt-of-lt-of-le h (le-of-eq (A .taps-length)) in
+            subst (λ (z : ℤ). natAbs (at taps i +ℤ z) < 2 ^ 63) (sym (entry (factors lag) gain e i l)) (A .small i l);
+      }
+
+  pub taps-added : {new : List ℤ} → new ≡ tabulate (length taps) (λ i. at taps i +ℤ at r i) → new ≡ plusTaps (noiseAt source denoised v) (at averages) (v .width) lag y taps
+  taps-added d =
+      d ∙ ap (λ (m : ℕ). tabulate m (λ i. at taps i +ℤ at r i)) (A .taps-length)
+      ∙ tabulate-same (factors lag) _ _ (λ i l. ap (λ (z : ℤ). at taps i +ℤ z) (entry (factors lag) gain e i l))

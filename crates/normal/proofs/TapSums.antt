@@ -4,57 +4,60 @@ use mathlib.Core.List.{List}
 use Prim.Native.Nat.{ℕ, _+_, _-_, _*_, _/_, _%_, _^_, _≤_, _<_}
 use native.Mathlib.Nat.{le-trans, le-of-eq, lt-of-le-of-lt, lt-of-lt-of-le, lt-trans, add-comm, add-le-add, mul-le-mul-right, div-lt-iff-lt-mul, mod-lt}
 use native.Mathlib.Omega.{arith}
-use lib.Dec.{lit<, lit≤}
-use lib.IntN.{ℤ, pos, natAbs, _+ℤ_, _*ℤ_}
+use lib.Dec.{lit<}
+use lib.IntN.{ℤ, pos, natAbs, _+ℤ_}
+use lib.ListN.{length}
 use mir.Syntax.{w64}
 use mir.Val.{ofZ, toZ}
-use Rattle.laws.specs.Sums.{total, sumTo}
+use Rattle.laws.specs.Limits.{sideLimit}
+use Rattle.laws.specs.Sums.{total}
 use Rattle.laws.specs.Table.{tabulate}
 use Rattle.laws.proofs.Table.{tabulate-same}
-use Rattle.laws.proofs.Sums.{sum-ext, sum-more, sum-bound}
+use Rattle.laws.proofs.Sums.{sum-more, sum-bound}
 use Rattle.laws.proofs.Whole.{abs-add}
 use Rattle.laws.proofs.Is.{Is}
-use Rattle.noise.specs.Lines.{at}
-use Rattle.noise.specs.Grids.{Rows, noiseAt}
-use Rattle.noise.specs.Average.{Luma, quarters}
-use Rattle.noise.specs.declared.rows.Grid.{Grid}
-use Rattle.noise.proofs.Lines.{noise-le}
+use Rattle.frame.specs.declared.view.Geometry.{Geometry}
+use Rattle.noise.specs.Noise.{noiseOf}
+use Rattle.noise.specs.Lines.{at, noiseLimit}
+use Rattle.noise.specs.Seen.{Seen, seen, noiseAt}
+use Rattle.noise.specs.Average.{lumaSeen, quarters}
+use Rattle.noise.proofs.Over.{average-le}
 use Rattle.noise.proofs.LineSums.{entry, size, rows-turn}
 use Rattle.positions.specs.Counts.{side, factors}
 use Rattle.positions.proofs.Counts.{factors-le}
-use Rattle.normal.specs.Normal.{Picture, windowSum, tapEntry, tapSquare}
-use Rattle.normal.specs.Calls.{Window, LumaOver, Planes, TapSums}
-use Rattle.normal.specs.Starts.{startSum}
-use Rattle.normal.specs.Rows.{Zeros}
-use Rattle.normal.specs.Taps.{TapRow}
-use Rattle.normal.proofs.StartSums.{start-ext, start-bound}
-use Rattle.normal.proofs.Adding.{table-is}
-use Rattle.normal.proofs.Entries.{back}
-use Rattle.normal.proofs.TapRows.{gainOf}
-use Rattle.normal.proofs.AverageRows.{average-le, averages-small}
+use Rattle.normal.specs.Normal.{Picture, tapEntry, tapSquare}
+use Rattle.normal.specs.Calls.{Window, TapSums}
+use Rattle.normal.specs.Starts.{startSum, averageLimit}
+use Rattle.normal.specs.Blocks.{Zeros}
+use Rattle.normal.specs.Taps.{rowTap, plusTaps, squaresAfter, tapsAfter, TapAdd, AverageRoom, TapRows, TapsHeld}
+use Rattle.normal.proofs.Overlaps.{start-ext, start-bound}
+use Rattle.normal.proofs.Reached.{table-is}
+use Rattle.normal.proofs.RowLines.{noise-small}
+use Rattle.normal.proofs.Windows.{window-starts, window-ext}
+use Rattle.normal.proofs.Entries.{back, neighbour-seen}
+use Rattle.normal.proofs.AverageRows.{averages-small}
 
--- ---- the squares
-module _ (q : Picture) (w lag : ℕ) where
-  -- row y + lag's
-  abbrev pub rowSquares : ℕ → ℤ
-  rowSquares y = startSum (q (y + lag)) (q (y + lag)) (w - 2 * lag) lag lag
-
-  pub squares-all : (h : ℕ) → sumTo rowSquares (h - lag) ≡ tapSquare q w h lag
-  unfolding startSum windowSum
-  squares-all h = sum-ext _ _ (h - lag) (λ y _. sum-ext _ _ (w - 2 * lag) (λ x _ t. q (add-comm y lag t) (lag + x) *ℤ q (add-comm y lag t) (lag + x)))
-
-  pub squares-le : (h : ℕ) → Window w h lag → ((r c : ℕ) → r < h → c < w → natAbs (q r c) ≤ 16380) → (y : ℕ) → y < h - lag → natAbs (rowSquares y) ≤ 2 ^ 40
-  squares-le h W small y l =
-      le-trans (start-bound (q (y + lag)) (q (y + lag)) (w - 2 * lag) lag lag 16380 16380 one one)
-      (le-trans (mul-le-mul-right (16380 * 16380) few) (lit≤ tt))
+-- ---- the averages q, in a window of a plane w wide
+module _ (q : Picture) (w lag h : ℕ) where
+  pub squares-all : squaresAfter q w lag (h - lag) ≡ tapSquare q w h lag
+  squares-all = window-starts w h lag q q (λ y. q (y + lag)) (λ y. q (y + lag)) lag lag row row
     where
-      one : (x : ℕ) → x < w - 2 * lag → natAbs (q (y + lag) (lag + x)) ≤ 16380
-      one x k = small (y + lag) (lag + x) (omega arith) (omega (arith, W .columns))
+      row : (y x : ℕ) → q (y + lag) (lag + x) ≡ q (lag + y) (lag + x)
+      row y x t = q (add-comm y lag t) (lag + x)
 
-      few : w - 2 * lag ≤ 2 ^ 12
-      few = omega (arith, W .narrow)
+  module _ (W : Window w h lag) (narrow : w ≤ sideLimit) (q-small : (r c : ℕ) → r < h → c < w → natAbs (q r c) ≤ averageLimit) where
+    inside : (y x : ℕ) → y < h - lag → x < w - 2 * lag → natAbs (q (y + lag) (lag + x)) ≤ averageLimit
+    inside y x l k = q-small (y + lag) (lag + x) (omega arith) (omega (arith, W .columns))
 
--- ---- a component's neighbours
+    pub squares-le : (y : ℕ) → y < h - lag → natAbs (startSum (q (y + lag)) (q (y + lag)) (w - 2 * lag) lag lag) ≤ sideLimit * (averageLimit * averageLimit)
+    squares-le y l =
+        le-trans (start-bound (q (y + lag)) (q (y + lag)) (w - 2 * lag) lag lag averageLimit averageLimit (λ x k. inside y x l k) (λ x k. inside y x l k))
+        (mul-le-mul-right (averageLimit * averageLimit) few)
+      where
+        few : w - 2 * lag ≤ sideLimit
+        few = omega arith
+
+-- ---- a component's picture f with them
 module _ (f q : Picture) (w lag : ℕ) where
   abbrev n : ℕ
   n = w - 2 * lag
@@ -62,55 +65,44 @@ module _ (f q : Picture) (w lag : ℕ) where
   abbrev s : ℕ
   s = side lag
 
-  -- row y's part for neighbour i, and the parts of m rows
-  abbrev rowTap : ℕ → ℕ → ℤ
-  rowTap i y = startSum (f (y + i / s)) (q (y + lag)) n (i % s) lag
+  abbrev after : ℕ → List ℤ
+  after m = tabulate (factors lag) (tapsAfter f q w lag m)
 
-  abbrev pub tapsAfter : ℕ → ℕ → ℤ
-  tapsAfter m i = sumTo (rowTap i) m
-
-  pub taps-none : {taps : List ℤ} → Zeros (factors lag) taps → taps ≡ tabulate (factors lag) (tapsAfter 0)
+  pub taps-none : {taps : List ℤ} → Zeros (factors lag) taps → taps ≡ after 0
   unfolding total
-  taps-none {taps} Z = table-is taps (factors lag) (tapsAfter 0) (Z .size) (Z .zero)
-
-  -- what a row adds
-  gain-is : {averages : List ℤ} (y : ℕ) → 2 * lag ≤ w → averages ≡ tabulate w (q (y + lag)) → (i : ℕ) → gainOf f w y lag averages i ≡ rowTap i y
-  gain-is {averages} y h d i =
-      start-ext (f (y + i / s)) (at averages) n (i % s) lag (f (y + i / s)) (q (y + lag)) (λ x k. refl) (λ x k. entry w (q (y + lag)) d (lag + x) (omega arith))
-
-  pub taps-more : {taps taps′ averages : List ℤ} (y : ℕ) → 2 * lag ≤ w → taps ≡ tabulate (factors lag) (tapsAfter y) → averages ≡ tabulate w (q (y + lag))
-      → taps′ ≡ tabulate (factors lag) (λ i. at taps i +ℤ gainOf f w y lag averages i) → taps′ ≡ tabulate (factors lag) (tapsAfter (y + 1))
-  taps-more {taps} {taps′} {averages} y h e d g =
-      g ∙ tabulate-same (factors lag) _ _ (λ i l. (λ j. entry (factors lag) (tapsAfter y) e i l j +ℤ gain-is y h d i j) ∙ sum-more (rowTap i) y)
+  taps-none {taps} Z = table-is taps (factors lag) (tapsAfter f q w lag 0) (Z .size) (Z .zero)
 
   -- all rows
-  module _ (h : ℕ) where
-    pub taps-all : (i : ℕ) → tapsAfter (h - lag) i ≡ tapEntry f q w h lag i
-    unfolding startSum windowSum
-    taps-all i =
-        sum-ext _ _ (h - lag) (λ y _. sum-ext _ _ n (λ x _ t.
-        f (ahead y (i / s) t) (sym (back lag x (i % s)) t) *ℤ q (add-comm y lag t) (lag + x)))
-      where
-        ahead : (y u : ℕ) → y + u ≡ lag + y - lag + u
-        ahead y u = omega arith
+  pub taps-all : (h i : ℕ) → tapsAfter f q w lag (h - lag) i ≡ tapEntry f q w h lag i
+  taps-all h i =
+      window-starts w h lag _ q (λ y. f (y + i / s)) (λ y. q (y + lag)) (i % s) lag
+      (λ y x t. f ((add-comm y (i / s) ∙ back lag y (i / s)) t) (back lag x (i % s) t)) (λ y x t. q (add-comm y lag t) (lag + x))
+
+  -- a row, from its line of averages
+  module _ {averages : List ℤ} (y : ℕ) (wide : 2 * lag ≤ w) (d : averages ≡ tabulate w (q (y + lag))) where
+    gain-is : (i : ℕ) → rowTap f (at averages) w lag y i ≡ rowTap f (q (y + lag)) w lag y i
+    gain-is i =
+        start-ext (f (y + i / s)) (at averages) n (i % s) lag (f (y + i / s)) (q (y + lag)) (λ x k. refl) (λ x k. entry w (q (y + lag)) d (lag + x) (omega arith))
+
+    pub taps-more : {taps taps′ : List ℤ} → taps ≡ after y → taps′ ≡ plusTaps f (at averages) w lag y taps → taps′ ≡ after (y + 1)
+    taps-more e g =
+        g ∙ tabulate-same (factors lag) _ _ (λ i l. (λ j. entry (factors lag) (tapsAfter f q w lag y) e i l j +ℤ gain-is i j) ∙ sum-more (λ y. rowTap f (q (y + lag)) w lag y i) y)
 
   -- ---- how large they are, where f is noise and q an average in quarters
-  module _ (h : ℕ) (W : Window w h lag) (f-small : (r c : ℕ) → r < h → c < w → natAbs (f r c) ≤ 4095) (q-small : (r c : ℕ) → r < h → c < w → natAbs (q r c) ≤ 16380) where
-    inside : (x : ℕ) → x < n → lag + x < w
-    inside x l = omega (arith, W .columns)
+  module _ (h : ℕ) (W : Window w h lag) (narrow : w ≤ sideLimit) (low : h ≤ sideLimit)
+      (f-small : (r c : ℕ) → r < h → c < w → natAbs (f r c) ≤ noiseLimit) (q-small : (r c : ℕ) → r < h → c < w → natAbs (q r c) ≤ averageLimit) where
+    few : n ≤ sideLimit
+    few = omega arith
 
-    across : (a x : ℕ) → a < s → x < n → a + x < w
-    across a x l k = omega (arith, W .columns)
+    abbrev most : ℕ
+    most = sideLimit * (noiseLimit * averageLimit)
 
-    few : n ≤ 2 ^ 12
-    few = omega (arith, W .narrow)
-
-    tap-le : (i y : ℕ) → i < factors lag → y < h - lag → natAbs (rowTap i y) ≤ 2 ^ 38
+    tap-le : (i y : ℕ) → i < factors lag → y < h - lag → natAbs (rowTap f (q (y + lag)) w lag y i) ≤ most
     tap-le i y l k =
-        le-trans (start-bound (f (y + i / s)) (q (y + lag)) n (i % s) lag 4095 16380
+        le-trans (start-bound (f (y + i / s)) (q (y + lag)) n (i % s) lag noiseLimit averageLimit
         (λ x m. f-small (y + i / s) (i % s + x) (omega (arith, row)) (across (i % s) x (mod-lt i some) m))
-        (λ x m. q-small (y + lag) (lag + x) (omega arith) (inside x m)))
-        (le-trans (mul-le-mul-right (4095 * 16380) few) (lit≤ tt))
+        (λ x m. inside q w lag h W narrow q-small y x k m))
+        (mul-le-mul-right (noiseLimit * averageLimit) few)
       where
         some : 0 < s
         some = omega arith
@@ -118,72 +110,100 @@ module _ (f q : Picture) (w lag : ℕ) where
         row : i / s < lag + 1
         row = div-lt-iff-lt-mul some .1 (lt-of-lt-of-le l (factors-le lag))
 
-    pub taps-room : {taps averages : List ℤ} (y : ℕ) → y < h - lag → taps ≡ tabulate (factors lag) (tapsAfter y) → averages ≡ tabulate w (q (y + lag))
-        → (i : ℕ) → i < factors lag → natAbs (at taps i +ℤ gainOf f w y lag averages i) < 2 ^ 63
+        across : (a x : ℕ) → a < s → x < n → a + x < w
+        across a x l k = omega (arith, W .columns)
+
+    pub taps-room : {taps averages : List ℤ} (y : ℕ) → y < h - lag → taps ≡ after y → averages ≡ tabulate w (q (y + lag))
+        → (i : ℕ) → i < factors lag → natAbs (at taps i +ℤ rowTap f (at averages) w lag y i) < 2 ^ 63
     taps-room {taps} {averages} y k e d i l =
-        lt-of-le-of-lt (le-of-eq (λ j. natAbs (entry (factors lag) (tapsAfter y) e i l j +ℤ gain-is y (W .columns) d i j)))
-        (lt-of-le-of-lt (abs-add (tapsAfter y i) (rowTap i y))
-        (lt-of-le-of-lt (add-le-add (le-trans (sum-bound (rowTap i) (2 ^ 38) y (λ v m. tap-le i v l (lt-trans m k))) (mul-le-mul-right (2 ^ 38) rows)) (tap-le i y l k)) (lit< tt)))
+        lt-of-le-of-lt (le-of-eq (λ j. natAbs (entry (factors lag) (tapsAfter f q w lag y) e i l j +ℤ gain-is y (W .columns) d i j)))
+        (lt-of-le-of-lt (abs-add (tapsAfter f q w lag y i) (rowTap f (q (y + lag)) w lag y i))
+        (lt-of-le-of-lt (add-le-add (le-trans (sum-bound (λ y. rowTap f (q (y + lag)) w lag y i) most y (λ v m. tap-le i v l (lt-trans m k))) (mul-le-mul-right most rows)) (tap-le i y l k)) (lit< tt)))
       where
-        rows : y ≤ 2 ^ 12
-        rows = omega (arith, W .low)
+        rows : y ≤ sideLimit
+        rows = omega arith
 
 -- ---- of a frame
--- before row y of the window: the squares, and each neighbour × tap
-pub record TapsHeld (l : Luma) (cb denoised-cb cr denoised-cr : List ℕ) (g : Grid) (cw lag y : ℕ) (squares : ℤ) (taps-cb taps-cr : List ℤ) : Type 0 where
-  pub squares-are : squares ≡ sumTo (rowSquares (quarters l) cw lag) y
-  pub cb-are : taps-cb ≡ tabulate (factors lag) (tapsAfter (noiseAt cb denoised-cb g) (quarters l) cw lag y)
-  pub cr-are : taps-cr ≡ tabulate (factors lag) (tapsAfter (noiseAt cr denoised-cr g) (quarters l) cw lag y)
+module _ {g : Geometry} {y y-denoised cb cb-denoised cr cr-denoised : List ℕ} {lag sums averages line row : ℕ} {cb-taps cr-taps : List ℤ}
+    (P : TapRows g y y-denoised cb cb-denoised cr cr-denoised lag sums averages line row cb-taps cr-taps) where
+  abbrev w : ℕ
+  w = g .chroma .width
 
-module _ {l : Luma} {cb denoised-cb cr denoised-cr : List ℕ} {g : Grid} {cw ch lag : ℕ} (P : Planes l cb denoised-cb cr denoised-cr g cw ch lag) where
-  pub taps-held : {taps-cb taps-cr : List ℤ} → Zeros (factors lag) taps-cb → Zeros (factors lag) taps-cr → TapsHeld l cb denoised-cb cr denoised-cr g cw lag 0 (pos 0) taps-cb taps-cr
+  abbrev h : ℕ
+  h = g .chroma .height
+
+  abbrev tap : Picture
+  tap = quarters (lumaSeen g y y-denoised)
+
+  pub held-none : TapsHeld g y y-denoised cb cb-denoised cr cr-denoised lag 0 (pos 0) cb-taps cr-taps
   unfolding total
-  taps-held Y Z = record { squares-are = refl; cb-are = taps-none (noiseAt cb denoised-cb g) (quarters l) cw lag Y; cr-are = taps-none (noiseAt cr denoised-cr g) (quarters l) cw lag Z }
+  held-none = record { squares-are = refl; cb-are = taps-none (noiseAt cb cb-denoised (g .chroma)) tap w lag (P .cb-nothing); cr-are = taps-none (noiseAt cr cr-denoised (g .chroma)) tap w lag (P .cr-nothing) }
 
-  pub taps-done : {squares : ℤ} {taps-cb taps-cr : List ℤ} (y : ℕ) → y ≡ ch - lag → TapsHeld l cb denoised-cb cr denoised-cr g cw lag y squares taps-cb taps-cr
-      → TapSums l cb denoised-cb cr denoised-cr g cw ch lag squares taps-cb taps-cr
-  taps-done y e H =
-      record {
-        squares-are = H .squares-are ∙ ap (sumTo (rowSquares (quarters l) cw lag)) e ∙ squares-all (quarters l) cw lag ch;
-        cb-are = H .cb-are ∙ all (noiseAt cb denoised-cb g);
-        cr-are = H .cr-are ∙ all (noiseAt cr denoised-cr g);
-      }
-    where
-      all : (f : Picture) → tabulate (factors lag) (tapsAfter f (quarters l) cw lag y) ≡ tabulate (factors lag) (tapEntry f (quarters l) cw ch lag)
-      all f = tabulate-same (factors lag) _ _ (λ i k. ap (λ (m : ℕ). tapsAfter f (quarters l) cw lag m i) e ∙ taps-all f (quarters l) cw lag ch i)
+  average-small : (r c : ℕ) → r < h → c < w → natAbs (tap r c) ≤ averageLimit
+  average-small r c l = average-le (P .frame .over) (P .frame .luma) l c
 
-  average-small : (r c : ℕ) → r < ch → c < cw → natAbs (quarters l r c) ≤ 16380
-  average-small r c k = average-le l (P .over) r k c
-
-  -- in row y
-  module _ (y : ℕ) (in-rows : y < ch - lag) where
-    pub row-below : y + lag + 1 ≤ ch
+  -- in row m + lag
+  module _ (m : ℕ) (in-rows : m < h - lag) where
+    row-below : m + lag < h
     row-below = omega arith
 
-    pub row-over : LumaOver l cw (y + lag + 1)
-    row-over =
-        record { plane = P .over .plane; narrow = P .over .narrow; columns-are = P .over .columns-are; rows-in = λ r k. P .over .rows-in r (lt-of-lt-of-le k row-below) }
+    pub average-room : {sums averages : ℕ} → sums ≡ g .luma .width → averages ≡ w → AverageRoom g y y-denoised (m + lag) (w - 2 * lag) lag sums averages
+    average-room e d =
+        record {
+          luma = P .frame .luma;
+          over = P .frame .over;
+          row = row-below;
+          columns = omega (arith, P .window .columns);
+          few = omega (arith, P .frame .cb .narrow);
+          sums-length = e;
+          averages-length = d;
+        }
 
-    pub row-window : Window cw (y + lag + 1) lag
-    row-window = record { few = P .window .few; columns = P .window .columns; rows = omega arith; narrow = P .window .narrow; low = le-trans row-below (P .window .low) }
-
-    pub squares-turn : {s : ℤ} (t : ℤ) → s ≡ sumTo (rowSquares (quarters l) cw lag) y → t ≡ rowSquares (quarters l) cw lag y
-        → Is w64 (s +ℤ toZ w64 (ofZ w64 t)) (sumTo (rowSquares (quarters l) cw lag) (y + 1))
+    pub squares-turn : {a : ℤ} (t : ℤ) → a ≡ squaresAfter tap w lag m → t ≡ startSum (tap (m + lag)) (tap (m + lag)) (w - 2 * lag) lag lag
+        → Is w64 (a +ℤ toZ w64 (ofZ w64 t)) (squaresAfter tap w lag (m + 1))
     squares-turn t e d =
-        rows-turn (rowSquares (quarters l) cw lag) (2 ^ 40) (ch - lag) (lt-of-le-of-lt (mul-le-mul-right (2 ^ 40) rows) (lit< tt)) (squares-le (quarters l) cw lag ch (P .window) average-small) y t in-rows e d
+        rows-turn (λ y. startSum (tap (y + lag)) (tap (y + lag)) (w - 2 * lag) lag lag) (sideLimit * (averageLimit * averageLimit)) (h - lag)
+        (lt-of-le-of-lt (mul-le-mul-right (sideLimit * (averageLimit * averageLimit)) rows) (lit< tt))
+        (squares-le tap w lag h (P .window) (P .frame .cb .narrow) average-small) m t in-rows e d
       where
-        rows : ch - lag ≤ 2 ^ 12
-        rows = omega (arith, P .window .low)
+        rows : h - lag ≤ sideLimit
+        rows = omega (arith, P .frame .cb .low)
 
-    module _ {averages : List ℤ} (d : averages ≡ tabulate cw (quarters l (y + lag))) where
-      pub component-row : {source denoised : List ℕ} → Rows source denoised g ch cw → {taps : List ℤ} → taps ≡ tabulate (factors lag) (tapsAfter (noiseAt source denoised g) (quarters l) cw lag y)
-          → TapRow source denoised g cw y lag averages taps
-      component-row {source} {denoised} R e =
-          record {
-            rows = λ r k. R r (lt-of-lt-of-le k row-below);
-            window = row-window;
-            length-averages = size cw (quarters l (y + lag)) d;
-            averages-small = averages-small l row-over (y + lag) (omega arith) d;
-            length-taps = size (factors lag) _ e;
-            small = taps-room (noiseAt source denoised g) (quarters l) cw lag ch (P .window) (λ r c k. noise-le (R r k) c) average-small y in-rows e d;
-          }
+    pub component-add : {source denoised : List ℕ} → Seen (g .chroma) source denoised → {taps filled : List ℤ} {line row : ℕ}
+        → taps ≡ tabulate (factors lag) (tapsAfter (noiseAt source denoised (g .chroma)) tap w lag m) → filled ≡ tabulate w (tap (m + lag)) → line ≡ w → row ≡ factors lag
+        → TapAdd (g .chroma) source denoised m lag filled line row taps
+    component-add {source} {denoised} S e d l k =
+        record {
+          tap-row = record {
+            seen = S;
+            window = P .window;
+            inside = row-below;
+            averages-length = size w (tap (m + lag)) d;
+            averages-small = averages-small (P .frame .over) (P .frame .luma) row-below d;
+            line-length = l;
+            row-length = k;
+          };
+          taps-length = size (factors lag) _ e;
+          small = taps-room (noiseAt source denoised (g .chroma)) tap w lag h (P .window) (S .narrow) (S .low) (noise-small S) average-small m in-rows e d;
+        }
+
+-- all rows, of what the geometry shows
+pub held-all : {g : Geometry} {y y-denoised cb cb-denoised cr cr-denoised : List ℕ} {lag : ℕ} {squares result : ℤ} {cb-taps cr-taps : List ℤ} → Window (g .chroma .width) (g .chroma .height) lag
+    → TapsHeld g y y-denoised cb cb-denoised cr cr-denoised lag (g .chroma .height - lag) squares cb-taps cr-taps
+    → result ≡ squares → TapSums (lumaSeen g y y-denoised) (seen (g .chroma) cb cb-denoised) (seen (g .chroma) cr cr-denoised) lag result cb-taps cr-taps
+held-all {g} {y} {y-denoised} {cb} {cb-denoised} {cr} {cr-denoised} {lag} W H e =
+    record {
+      squares-are = e ∙ H .squares-are ∙ squares-all q (g .chroma .width) lag (g .chroma .height);
+      cb-are = H .cb-are ∙ all cb cb-denoised;
+      cr-are = H .cr-are ∙ all cr cr-denoised;
+    }
+  where
+    q : Picture
+    q = quarters (lumaSeen g y y-denoised)
+
+    all : (source denoised : List ℕ) → tabulate (factors lag) (tapsAfter (noiseAt source denoised (g .chroma)) q (g .chroma .width) lag (g .chroma .height - lag))
+        ≡ tabulate (factors lag) (tapEntry (noiseOf (seen (g .chroma) source denoised)) q (g .chroma .width) (g .chroma .height) lag)
+    all source denoised =
+        tabulate-same (factors lag) _ _ (λ i k.
+        taps-all (noiseAt source denoised (g .chroma)) q (g .chroma .width) lag (g .chroma .height) i
+        ∙ window-ext (g .chroma .width) (g .chroma .height) lag _ _ q q (neighbour-seen (g .chroma) source denoised W i k) (λ y x p. refl))

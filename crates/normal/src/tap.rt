@@ -1,181 +1,182 @@
 // Sums of chroma noise and luma averages: what the luma tap adds to the normal equations of a chroma plane.
 ghost use mathlib.Core.Path.{_≡_};
-ghost use Prim.Native.Nat.{_+_, _-_, _*_, _/_, _%_, _^_, _≤_};
-ghost use lib.IntN.{_+ℤ_};
+ghost use Prim.Native.Nat.{ℕ, _-_, _*_, _<_};
 ghost use lib.ListN.{length};
 ghost use Rattle.laws.specs.Table.{tabulate};
 ghost use Rattle.noise.specs.Lines.{at};
-ghost use Rattle.noise.specs.Grids.{noiseAt};
-ghost use Rattle.noise.specs.Average.{quarters};
-ghost use Rattle.noise.specs.Quarters.{luma};
-ghost use Rattle.positions.specs.Counts.{side, factors};
-ghost use Rattle.normal.specs.Starts.{startSum};
-ghost use Rattle.normal.specs.Rows.{Zeros};
-ghost use Rattle.normal.specs.Calls.{LumaOver, Planes, TapSums};
-ghost use Rattle.normal.specs.Taps.{TapRoom, TapRow};
+ghost use Rattle.noise.specs.Seen.{seen, noiseAt};
+ghost use Rattle.noise.specs.Average.{lumaSeen};
+ghost use Rattle.positions.specs.Counts.{factors};
+ghost use Rattle.normal.specs.Calls.{TapRoom, TapSums};
+ghost use Rattle.normal.specs.Starts.{startSum, Noisy};
+ghost use Rattle.normal.specs.Taps.{rowTap, TapRow, TapAdd, plusTaps, AverageRoom, AverageSquares, TapRows, TapsHeld};
+use crate::blocks::add_to;
+use crate::blocks::blank_tables;
+use crate::blocks::clear;
 use crate::rows::fewer;
-use crate::rows::grid_line;
+use crate::rows::noise_row;
 use crate::starts::square_sum;
 use crate::starts::start_sum;
-use noise::Grid;
+use frame::Geometry;
+use frame::View;
 use noise::average_line;
 use noise::blank_line;
 
-// taps[c] = taps[c] + line[c] × averages[lag] + line[c + 1] × averages[lag + 1] + .., n products.
-fn add_taps(line: &[i16], averages: &[i16], n: usize, lag: usize, taps: &mut [i64])
-    requires { ⌜ TapRoom (now line) (now averages) n lag (now taps) ⌝ }
-    ensures { λ _. ⌜ now (taps .exit) ≡ tabulate (length (now (taps .entry))) (λ c. at (now (taps .entry)) c +ℤ startSum (at (now (line .entry))) (at (now (averages .entry))) n c lag) ⌝ }
+// out[c] = line[c] × averages[lag] + line[c + 1] × averages[lag + 1] + .., n products.
+fn start_line(line: &[i16], averages: &[i16], n: usize, lag: usize, out: &mut [i64])
+    requires { ⌜ ((c : ℕ) → c < length (now out) → Noisy (now line) (now averages) n c lag) ⌝ }
+    ensures { λ _. ⌜ now (out .exit) ≡ tabulate (length (now (out .entry))) (λ c. startSum (at (now (line .entry))) (at (now (averages .entry))) n c lag) ⌝ }
 {
-    let mut c = 0usize;
-    while c < taps.len() {
-        let x = taps[c];
-        let y = start_sum(line, averages, n, c, lag);
-        taps[c] = x + y;
-        c += 1usize;
+    for c in 0..out.len() {
+        let sum = start_sum(line, averages, n, c, lag);
+        out[c] = sum;
     }
 }
 
-// Row y + lag's products with its luma averages: neighbour i is i / (2 × lag + 1) rows below row y.
+// row[i] = neighbour i × luma average along row y + lag: neighbour i is i / (2 × lag + 1) rows below row y.
 fn tap_row(
     src: &[u16],
     den: &[u16],
-    grid: Grid,
-    w: usize,
+    view: View,
     y: usize,
     lag: usize,
     averages: &[i16],
     line: &mut [i16],
-    taps: &mut [i64],
+    row: &mut [i64],
 )
-    requires { ⌜ TapRow (now src) (now den) grid w y lag (now averages) (now taps) × (length (now line) ≡ w) ⌝ }
-    ensures { λ _. ⌜ now (taps .exit) ≡ tabulate (factors lag) (λ i. at (now (taps .entry)) i +ℤ startSum (noiseAt (now (src .entry)) (now (den .entry)) grid (y + i / side lag)) (at (now (averages .entry))) (w - 2 * lag) (i % side lag) lag) ⌝ }
+    requires { ⌜ TapRow view (now src) (now den) y lag (now averages) (length (now line)) (length (now row)) ⌝ }
+    ensures { λ _. ⌜ now (row .exit) ≡ tabulate (factors lag) (rowTap (noiseAt (now (src .entry)) (now (den .entry)) view) (at (now (averages .entry))) (view .width) lag y) ⌝ }
 {
-    let side = 2usize * lag + 1usize;
-    let n = w - 2usize * lag;
-    let count = taps.len();
-    let mut u = 0usize;
-    while u <= lag {
+    let side = 2 * lag + 1;
+    let n = view.width - 2 * lag;
+    let count = row.len();
+    for u in 0..lag + 1 {
         let first = u * side;
         let end = first + fewer(side, count - first);
-        grid_line(src, den, grid, y + u, line);
-        add_taps(line, averages, n, lag, &mut taps[first..end]);
-        u += 1usize;
+        noise_row(src, den, view, y + u, line);
+        start_line(line, averages, n, lag, &mut row[first..end]);
     }
+}
+
+// taps[i] = taps[i] + neighbour i × luma average along row y + lag.
+fn add_taps(
+    src: &[u16],
+    den: &[u16],
+    view: View,
+    y: usize,
+    lag: usize,
+    averages: &[i16],
+    line: &mut [i16],
+    row: &mut [i64],
+    taps: &mut [i64],
+)
+    requires { ⌜ TapAdd view (now src) (now den) y lag (now averages) (length (now line)) (length (now row)) (now taps) ⌝ }
+    ensures { λ _. ⌜ now (taps .exit) ≡ plusTaps (noiseAt (now (src .entry)) (now (den .entry)) view) (at (now (averages .entry))) (view .width) lag y (now (taps .entry)) ⌝ }
+{
+    tap_row(src, den, view, y, lag, averages, line, row);
+    add_to(taps, row);
 }
 
 // The luma averages of chroma row r, in quarters, and the sum of n of their squares from column lag on.
 fn average_squares(
     src: &[u16],
     den: &[u16],
-    w: usize,
-    h: usize,
-    format: u8,
+    geometry: Geometry,
     r: usize,
     n: usize,
     lag: usize,
     sums: &mut [i16],
     averages: &mut [i16],
 ) -> i64
-    requires { ⌜ LumaOver (luma (now src) (now den) w h format) (length (now averages)) (r + 1) × (length (now sums) ≡ w) × (lag + n ≤ length (now averages)) × (n ≤ 2 ^ 12) ⌝ }
-    ensures { λ s. ⌜ (s ≡ startSum (quarters (luma (now (src .entry)) (now (den .entry)) w h format) r) (quarters (luma (now (src .entry)) (now (den .entry)) w h format) r) n lag lag) × (now (averages .exit) ≡ tabulate (length (now (averages .entry))) (quarters (luma (now (src .entry)) (now (den .entry)) w h format) r)) ⌝ }
+    requires { ⌜ AverageRoom geometry (now src) (now den) r n lag (length (now sums)) (length (now averages)) ⌝ }
+    ensures { λ s. ⌜ AverageSquares (lumaSeen geometry (now (src .entry)) (now (den .entry))) (geometry .chroma .width) r n lag s (now (averages .exit)) ⌝ }
 {
-    average_line(src, den, w, h, format, r, sums, averages);
+    average_line(
+        src,
+        den,
+        geometry.luma,
+        geometry.sampling,
+        r,
+        sums,
+        averages,
+    );
     square_sum(averages, n, lag)
 }
 
 // All rows of the window, for both components: the averages of a row serve both. The lines have a place for each column.
 fn tap_rows(
-    src: &[u16],
-    den: &[u16],
-    w: usize,
-    h: usize,
-    format: u8,
+    y: &[u16],
+    y_den: &[u16],
     cb: &[u16],
-    dcb: &[u16],
+    cb_den: &[u16],
     cr: &[u16],
-    dcr: &[u16],
-    grid: Grid,
-    cw: usize,
-    ch: usize,
+    cr_den: &[u16],
+    geometry: Geometry,
     lag: usize,
     sums: &mut [i16],
     averages: &mut [i16],
     line: &mut [i16],
-    cbtaps: &mut [i64],
-    crtaps: &mut [i64],
+    row: &mut [i64],
+    cb_taps: &mut [i64],
+    cr_taps: &mut [i64],
 ) -> i64
-    requires { ⌜ Planes (luma (now src) (now den) w h format) (now cb) (now dcb) (now cr) (now dcr) grid cw ch lag × (length (now sums) ≡ w) × (length (now averages) ≡ cw) × (length (now line) ≡ cw) × Zeros (factors lag) (now cbtaps) × Zeros (factors lag) (now crtaps) ⌝ }
-    ensures { λ s. ⌜ TapSums (luma (now (src .entry)) (now (den .entry)) w h format) (now (cb .entry)) (now (dcb .entry)) (now (cr .entry)) (now (dcr .entry)) grid cw ch lag s (now (cbtaps .exit)) (now (crtaps .exit)) ⌝ }
+    requires { ⌜ TapRows geometry (now y) (now «y_den») (now cb) (now «cb_den») (now cr) (now «cr_den») lag (length (now sums)) (length (now averages)) (length (now line)) (length (now row)) (now «cb_taps») (now «cr_taps») ⌝ }
+    ensures { λ s. ⌜ TapsHeld geometry (now (y .entry)) (now («y_den» .entry)) (now (cb .entry)) (now («cb_den» .entry)) (now (cr .entry)) (now («cr_den» .entry)) lag (geometry .chroma .height - lag) s (now («cb_taps» .exit)) (now («cr_taps» .exit)) ⌝ }
 {
-    let n = cw - 2usize * lag;
-    let rows = ch - lag;
-    let mut squares = 0i64;
-    let mut y = 0usize;
-    while y < rows {
-        let part = average_squares(src, den, w, h, format, y + lag, n, lag, sums, averages);
+    let chroma = geometry.chroma;
+    let n = chroma.width - 2 * lag;
+    let rows = chroma.height - lag;
+    let mut squares = 0;
+    for r in 0..rows {
+        let part = average_squares(y, y_den, geometry, r + lag, n, lag, sums, averages);
         squares = squares + part;
-        tap_row(cb, dcb, grid, cw, y, lag, averages, line, cbtaps);
-        tap_row(cr, dcr, grid, cw, y, lag, averages, line, crtaps);
-        y += 1usize;
+        add_taps(cb, cb_den, chroma, r, lag, averages, line, row, cb_taps);
+        add_taps(cr, cr_den, chroma, r, lag, averages, line, row, cr_taps);
     }
     squares
 }
 
-// Zeros throughout.
-fn clear(sums: &mut [i64])
-    ensures { λ _. ⌜ Zeros (length (now (sums .entry))) (now (sums .exit)) ⌝ }
-{
-    let mut i = 0usize;
-    while i < sums.len() {
-        sums[i] = 0i64;
-        i += 1usize;
-    }
-}
-
 // taps[i] = Σ neighbour i × luma average over the window, in quarters, for each component; the result is Σ average², in sixteenths.
 pub fn tap_sums(
-    src: &[u16],
-    den: &[u16],
-    w: usize,
-    h: usize,
-    format: u8,
+    y: &[u16],
+    y_den: &[u16],
     cb: &[u16],
-    dcb: &[u16],
+    cb_den: &[u16],
     cr: &[u16],
-    dcr: &[u16],
-    grid: Grid,
-    cw: usize,
-    ch: usize,
+    cr_den: &[u16],
+    geometry: Geometry,
     lag: usize,
-    cbtaps: &mut [i64],
-    crtaps: &mut [i64],
+    cb_taps: &mut [i64],
+    cr_taps: &mut [i64],
 ) -> i64
-    requires { ⌜ Planes (luma (now src) (now den) w h format) (now cb) (now dcb) (now cr) (now dcr) grid cw ch lag × (length (now cbtaps) ≡ factors lag) × (length (now crtaps) ≡ factors lag) ⌝ }
-    ensures { λ s. ⌜ TapSums (luma (now (src .entry)) (now (den .entry)) w h format) (now (cb .entry)) (now (dcb .entry)) (now (cr .entry)) (now (dcr .entry)) grid cw ch lag s (now (cbtaps .exit)) (now (crtaps .exit)) ⌝ }
+    requires { ⌜ TapRoom geometry (now y) (now «y_den») (now cb) (now «cb_den») (now cr) (now «cr_den») lag (length (now «cb_taps»)) (length (now «cr_taps»)) ⌝ }
+    ensures { λ s. ⌜ TapSums (lumaSeen geometry (now (y .entry)) (now («y_den» .entry))) (seen (geometry .chroma) (now (cb .entry)) (now («cb_den» .entry))) (seen (geometry .chroma) (now (cr .entry)) (now («cr_den» .entry))) lag s (now («cb_taps» .exit)) (now («cr_taps» .exit)) ⌝ }
 {
     let mut sums = blank_line();
     let mut averages = blank_line();
     let mut line = blank_line();
-    clear(cbtaps);
-    clear(crtaps);
+    let mut row = blank_tables();
+    let luma = geometry.luma;
+    let chroma = geometry.chroma;
+    let w = luma.width;
+    let cw = chroma.width;
+    let count = cb_taps.len();
+    clear(cb_taps);
+    clear(cr_taps);
     tap_rows(
-        src,
-        den,
-        w,
-        h,
-        format,
+        y,
+        y_den,
         cb,
-        dcb,
+        cb_den,
         cr,
-        dcr,
-        grid,
-        cw,
-        ch,
+        cr_den,
+        geometry,
         lag,
         &mut sums[..w],
         &mut averages[..cw],
         &mut line[..cw],
-        cbtaps,
-        crtaps,
+        &mut row[..count],
+        cb_taps,
+        cr_taps,
     )
 }

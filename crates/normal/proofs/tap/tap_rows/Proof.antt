@@ -1,145 +1,167 @@
 -- `normal::tap::tap_rows` meets its contract: the sums hold what the rows passed have added. Assumes nothing.
-use mathlib.Core.Path.{_≡_, refl, sym, ap, _∙_, subst}
-use Prim.Native.Nat.{ℕ, _+_, _-_, _*_, _^_, _≤_, zero-le}
-use native.Mathlib.Nat.{le-trans, le-of-eq, le-antisymm}
+use mathlib.Core.Path.{_≡_, refl, sym, ap, _∙_}
+use Prim.Native.Nat.{ℕ, _+_, _-_, _*_, _≤_, _<_, zero-le}
+use native.Mathlib.Nat.{le-antisymm}
 use native.Mathlib.Numerals.{add-one-le}
 use native.Mathlib.Omega.{arith}
 use borrow.Author.Count.{falls}
+use borrow.Author.Needs.{needs}
 use lib.IntN.{ℤ, _+ℤ_}
 use lib.ListN.{length}
 use mir.Syntax.{w64}
 use mir.Val.{Fits, ofZ, toZ}
-use Rattle.laws.specs.Sums.{sumTo}
-use Rattle.laws.specs.Table.{tabulate}
+use Rattle.laws.specs.Limits.{sideLimit}
 use Rattle.laws.proofs.Is.{Is, fits, again}
-use Rattle.noise.specs.Grids.{noiseAt}
-use Rattle.noise.specs.Average.{quarters}
-use Rattle.noise.specs.Quarters.{luma}
+use Rattle.noise.specs.Seen.{noiseAt}
+use Rattle.noise.specs.Average.{lumaSeen, quarters}
 use Rattle.noise.proofs.LineSums.{size}
-use Rattle.normal.specs.Calls.{LumaOver}
-use Rattle.normal.proofs.TapSums.{TapsHeld, taps-held, taps-done, row-below, row-over, component-row, squares-turn, rowSquares, taps-more}
+use Rattle.positions.specs.Counts.{factors}
+use Rattle.normal.specs.Taps.{squaresAfter, TapsHeld}
+use Rattle.normal.proofs.TapSums.{held-none, average-room, squares-turn, component-add, taps-more}
 use Rattle.normal.proofs.tap.tap_rows.Statement.{statement}
 use Rattle.normal.proofs.tap.tap_rows.Tie as tie
 
 abbrev Inv-loop : tie.InvT-loop
-Inv-loop src den w h format cb dcb cr dcr grid cw ch lag sums₀ averages₀ line₀ cbtaps₀ crtaps₀ n rows squares₀ y₀ sums averages line cbtaps crtaps squares y = (n ≡ cw - 2 * lag) × (rows ≡ ch - lag) × (length sums ≡ w) × (length averages ≡ cw) × (length line ≡ cw) × (y ≤ rows) × TapsHeld (luma src den w h format) cb dcb cr dcr grid cw lag y (toZ w64 squares) cbtaps crtaps
+Inv-loop y y-den cb cb-den cr cr-den geometry lag sums₀ averages₀ line₀ row₀ cb-taps₀ cr-taps₀ chroma n rows squares₀ r₀ sums averages line row cb-taps cr-taps squares r =
+    (length sums ≡ geometry .luma .width) × (length averages ≡ geometry .chroma .width) × (length line ≡ geometry .chroma .width) × (length row ≡ factors lag) × (r ≤ rows)
+    × TapsHeld geometry y y-den cb cb-den cr cr-den lag r (toZ w64 squares) cb-taps cr-taps
 
 abbrev μ-loop : tie.MeasureT-loop
-μ-loop src den w h format cb dcb cr dcr grid cw ch lag sums₀ averages₀ line₀ cbtaps₀ crtaps₀ n rows squares₀ y₀ sums averages line cbtaps crtaps squares y = rows - y
+μ-loop y y-den cb cb-den cr cr-den geometry lag sums₀ averages₀ line₀ row₀ cb-taps₀ cr-taps₀ chroma n rows squares₀ r₀ sums averages line row cb-taps cr-taps squares r = rows - r
 
 double : {lag : ℕ} → lag ≤ 3 → Fits w64 (2 * lag)
 double h = record { fits = omega arith }
 
-in-rows : (y lag : ℕ) → y + lag + 1 ≤ 2 ^ 12 → Fits w64 (y + lag)
-in-rows y lag h = record { fits = omega arith }
+in-rows : (r lag h : ℕ) → r < h - lag → h ≤ sideLimit → Fits w64 (r + lag)
+in-rows r lag h l k = record { fits = omega arith }
 
-one-more : (y lag : ℕ) → y + lag + 1 ≤ 2 ^ 12 → Fits w64 (y + 1)
-one-more y lag h = record { fits = omega arith }
+one-more : (r lag h : ℕ) → r < h - lag → h ≤ sideLimit → Fits w64 (r + 1)
+one-more r lag h l k = record { fits = omega arith }
 
--- the window's columns
-inner : (lag w : ℕ) → 2 * lag ≤ w → lag + (w - 2 * lag) ≤ w
-inner lag w h = omega arith
+-- ---- what is known at entry, before the loop and in a turn
+abbrev entry : tie.After-chroma Inv-loop μ-loop → tie.Start Inv-loop μ-loop
+entry c = c .before .before .before .before .before .before .before
 
-few : (lag w : ℕ) → w ≤ 2 ^ 12 → w - 2 * lag ≤ 2 ^ 12
-few lag w h = omega arith
+abbrev start : tie.In-loop Inv-loop μ-loop → tie.Start Inv-loop μ-loop
+start T = entry (T .before .before .before .before)
 
 mul-n : tie.Need-mul-n Inv-loop μ-loop
-mul-n c = double (c .before .before .before .before .before .before .pre .0 .window .few)
+mul-n c = double (entry c .pre .window .few)
 
 sub-n : tie.Need-sub-n Inv-loop μ-loop
-sub-n c = c .before .before .before .before .before .before .pre .0 .window .columns
+sub-n c = entry (c .before) .pre .window .columns
 
 sub-rows : tie.Need-sub-rows Inv-loop μ-loop
-sub-rows c = c .before .before .before .before .before .before .pre .0 .window .rows
+sub-rows c = entry (c .before .before) .pre .window .rows
 
 loop-holds : tie.Need-loop-holds Inv-loop μ-loop
-loop-holds c = let S = c .before .before .before .before .before .before in (refl, refl, S .pre .1, S .pre .2, S .pre .3, zero-le, taps-held (S .pre .0) (S .pre .4) (S .pre .5))
+loop-holds c = let P = entry (c .before .before) .pre in (P .sums-length, P .averages-length, P .line-length, P .row-length, zero-le, held-none P)
 
 add-average-squares : tie.Need-add-average-squares Inv-loop μ-loop
-add-average-squares c = in-rows _ _ (le-trans (row-below (c .before .before .before .before .before .before .before .before .pre .0) (c .before .loop .y) (c .loop-test .taken)) (c .before .before .before .before .before .before .before .before .pre .0 .window .low))
+add-average-squares c = in-rows _ _ _ (c .loop-test .taken) (start c .pre .frame .cb .low)
 
 average-squares-requires : tie.Need-average-squares-requires Inv-loop μ-loop
 average-squares-requires c κs =
-    let S = c .before .before .before .before .before .before .before .before .before .before in
-    let A = S .args in
-    let H = c .before .before .before .loop in (
-      subst (λ (m : ℕ). LumaOver (luma (A .src .now) (A .den .now) (A .w) (A .h) (A .format)) m (H .y + A .lag + 1)) (sym (H .inv .3)) (row-over (S .pre .0) (H .y) (c .before .before .loop-test .taken)),
-      H .inv .2,
-      le-trans (inner (A .lag) (A .cw) (S .pre .0 .window .columns)) (le-of-eq (sym (H .inv .3))),
-      few (A .lag) (A .cw) (S .pre .0 .window .narrow),
-    )
+    let T = c .before .before in
+    average-room (start T .pre) (T .before .loop .r) (T .loop-test .taken) (T .before .loop .inv .0) (T .before .loop .inv .1)
 
--- the averages of row y + lag, and the squares with theirs
-averaged : (c : tie.After-average-squares Inv-loop μ-loop) → let A = c .before .before .before .before .before .before .before .before .before .before .before .args in
-    c .average-squares .last .1 .1 .1 .1 .1 .1 .1 .1 .1 .0 ≡ tabulate (A .cw) (quarters (luma (A .src .now) (A .den .now) (A .w) (A .h) (A .format)) (c .before .before .before .before .loop .y + A .lag))
-averaged c =
-    let A = c .before .before .before .before .before .before .before .before .before .before .before .args in
-    c .average-squares .ensures .1 ∙ ap (λ (m : ℕ). tabulate m (quarters (luma (A .src .now) (A .den .now) (A .w) (A .h) (A .format)) (c .before .before .before .before .loop .y + A .lag))) (c .before .before .before .before .loop .inv .3)
+-- ---- the averages of row r + lag, and the squares with theirs
+abbrev averaged-in : tie.After-average-squares Inv-loop μ-loop → tie.In-loop Inv-loop μ-loop
+averaged-in c = c .before .before .before
 
-squared : (c : tie.After-average-squares Inv-loop μ-loop) → let A = c .before .before .before .before .before .before .before .before .before .before .before .args in
-    Is w64 (toZ w64 (c .before .before .before .before .loop .squares) +ℤ toZ w64 (ofZ w64 (c .average-squares .result))) (sumTo (rowSquares (quarters (luma (A .src .now) (A .den .now) (A .w) (A .h) (A .format))) (A .cw) (A .lag)) (c .before .before .before .before .loop .y + 1))
+squared : (c : tie.After-average-squares Inv-loop μ-loop) → let A = start (averaged-in c) .args in
+    Is w64 (toZ w64 (averaged-in c .before .loop .squares) +ℤ toZ w64 (ofZ w64 (c .average-squares .result)))
+    (squaresAfter (quarters (lumaSeen (A .geometry) (A .y .now) (A .y-den .now))) (A .geometry .chroma .width) (A .lag) (averaged-in c .before .loop .r + 1))
 squared c =
-    let H = c .before .before .before .before .loop in
-    squares-turn (c .before .before .before .before .before .before .before .before .before .before .before .pre .0) (H .y) (c .before .before .before .loop-test .taken) (c .average-squares .result) (H .inv .6 .squares-are) (c .average-squares .ensures .0)
+    let T = averaged-in c in
+    squares-turn (start T .pre) (T .before .loop .r) (T .loop-test .taken) (c .average-squares .result) (T .before .loop .inv .5 .squares-are) (c .average-squares .ensures .squares-are)
 
 add-squares : tie.Need-add-squares Inv-loop μ-loop
 add-squares c = fits (squared (c .before .before))
 
-tap-row-requires : tie.Need-tap-row-requires Inv-loop μ-loop
-tap-row-requires c κs =
-    let S = c .before .before .before .before .before .before .before .before .before .before .before .before .before .before .before .before in
-    let H = c .before .before .before .before .before .before .before .before .before .loop in
-    (component-row (S .pre .0) (H .y) (c .before .before .before .before .before .before .before .before .loop-test .taken) (averaged (c .before .before .before .before .before)) (S .pre .0 .cb-rows) (H .inv .6 .cb-are), H .inv .4)
+-- ---- both components
+abbrev blue-after : tie.After-add-taps-arg4 Inv-loop μ-loop → tie.After-average-squares Inv-loop μ-loop
+blue-after c = c .before .before .before .before .before .before
 
-tap-row-requires-2 : tie.Need-tap-row-requires-2 Inv-loop μ-loop
-tap-row-requires-2 c κs =
-    let S = c .before .before .before .before .before .before .before .before .before .before .before .before .before .before .before .before .before .before .before .before .before .before in
-    let H = c .before .before .before .before .before .before .before .before .before .before .before .before .before .before .before .loop in
-    (component-row (S .pre .0) (H .y) (c .before .before .before .before .before .before .before .before .before .before .before .before .before .before .loop-test .taken) (averaged (c .before .before .before .before .before .before .before .before .before .before .before)) (S .pre .0 .cr-rows) (H .inv .6 .cr-are), c .before .before .before .before .before .tap-row .kept .1 .1 .1 .1 .1 .1 .1 .0 ∙ H .inv .4)
+add-taps-requires : tie.Need-add-taps-requires Inv-loop μ-loop
+add-taps-requires c κs =
+    let Q = blue-after c in
+    let T = averaged-in Q in
+    let H = T .before .loop in
+    component-add (start T .pre) (H .r) (T .loop-test .taken) (start T .pre .frame .cb) (H .inv .5 .cb-are) (Q .average-squares .ensures .averages-are) (H .inv .2) (H .inv .3)
 
-add-y : tie.Need-add-y Inv-loop μ-loop
-add-y c = one-more _ _ (le-trans (row-below (c .before .before .before .before .before .before .before .before .before .before .before .before .before .before .before .before .before .before .before .before .before .before .before .before .before .pre .0) (c .before .before .before .before .before .before .before .before .before .before .before .before .before .before .before .before .before .before .loop .y) (c .before .before .before .before .before .before .before .before .before .before .before .before .before .before .before .before .before .loop-test .taken)) (c .before .before .before .before .before .before .before .before .before .before .before .before .before .before .before .before .before .before .before .before .before .before .before .before .before .pre .0 .window .low))
+abbrev red-after : tie.After-add-taps-arg8 Inv-loop μ-loop → tie.After-add-taps Inv-loop μ-loop
+red-after c = c .before .before .before .before .before .before .before
+
+add-taps-requires-2 : tie.Need-add-taps-requires-2 Inv-loop μ-loop
+add-taps-requires-2 c κs =
+    let B = red-after c in
+    let Q = blue-after (B .before) in
+    let T = averaged-in Q in
+    let H = T .before .loop in
+    let K = B .add-taps .kept .1 .1 .1 .1 .1 .1 in
+    component-add (start T .pre) (H .r) (T .loop-test .taken) (start T .pre .frame .cr) (H .inv .5 .cr-are) (Q .average-squares .ensures .averages-are) (K .0 ∙ H .inv .2) (K .1 .0 ∙ H .inv .3)
+
+-- ---- the turn's end
+abbrev turn : tie.After-cr-taps Inv-loop μ-loop → tie.In-loop Inv-loop μ-loop
+turn c = averaged-in (blue-after (red-after (c .before .before .before .before) .before))
+
+add-r : tie.Need-add-r Inv-loop μ-loop
+add-r c = one-more _ _ _ (turn c .loop-test .taken) (start (turn c) .pre .frame .cb .low)
 
 loop-less : tie.Need-loop-less Inv-loop μ-loop
-loop-less c = falls _ _ (c .before .before .before .before .before .before .before .before .before .before .before .before .before .before .before .before .before .loop-test .taken)
+loop-less c = falls _ _ (turn c .loop-test .taken)
 
 loop-again : tie.Need-loop-again Inv-loop μ-loop
 loop-again c =
-    let S = c .before .before .before .before .before .before .before .before .before .before .before .before .before .before .before .before .before .before .before .before .before .before .before .before .before in
-    let A = S .args in
-    let H = c .before .before .before .before .before .before .before .before .before .before .before .before .before .before .before .before .before .before .loop in
-    let K = c .before .before .before .before .before .before .before .before .before .before .before .before .before .before .average-squares .kept in
-    let q = quarters (luma (A .src .now) (A .den .now) (A .w) (A .h) (A .format)) in (
-      refl,
-      refl,
-      K .1 .1 .1 .1 .1 .1 .1 .1 .0 ∙ H .inv .2,
-      K .1 .1 .1 .1 .1 .1 .1 .1 .1 .0 ∙ H .inv .3,
-      c .before .before .tap-row2 .kept .1 .1 .1 .1 .1 .1 .1 .0 ∙ c .before .before .before .before .before .before .before .before .tap-row .kept .1 .1 .1 .1 .1 .1 .1 .0 ∙ H .inv .4,
-      add-one-le (c .before .before .before .before .before .before .before .before .before .before .before .before .before .before .before .before .before .loop-test .taken),
+    let R = c .before .before .before in
+    let B = red-after (R .before) in
+    let Q = blue-after (B .before) in
+    let T = averaged-in Q in
+    let A = start T .args in
+    let H = T .before .loop in
+    let q = quarters (lumaSeen (A .geometry) (A .y .now) (A .y-den .now)) in
+    let v = A .geometry .chroma in
+    let wide = start T .pre .window .columns in
+    let K = Q .average-squares .kept .1 .1 .1 .1 .1 .1 in
+    let L = B .add-taps .kept .1 .1 .1 .1 .1 .1 in
+    let M = R .add-taps2 .kept .1 .1 .1 .1 .1 .1 in (
+      K .0 ∙ H .inv .0,
+      K .1 .0 ∙ H .inv .1,
+      M .0 ∙ L .0 ∙ H .inv .2,
+      M .1 .0 ∙ L .1 .0 ∙ H .inv .3,
+      add-one-le (T .loop-test .taken),
       record {
-        squares-are = again (squared (c .before .before .before .before .before .before .before .before .before .before .before .before .before .before)) .eq;
-        cb-are = taps-more (noiseAt (A .cb .now) (A .dcb .now) (A .grid)) q (A .cw) (A .lag) (H .y) (S .pre .0 .window .columns) (H .inv .6 .cb-are) (averaged (c .before .before .before .before .before .before .before .before .before .before .before .before .before .before)) (c .before .before .before .before .before .before .before .before .tap-row .ensures);
-        cr-are = taps-more (noiseAt (A .cr .now) (A .dcr .now) (A .grid)) q (A .cw) (A .lag) (H .y) (S .pre .0 .window .columns) (H .inv .6 .cr-are) (averaged (c .before .before .before .before .before .before .before .before .before .before .before .before .before .before)) (c .before .before .tap-row2 .ensures);
+        squares-are = again (squared Q) .eq;
+        cb-are = taps-more (noiseAt (A .cb .now) (A .cb-den .now) v) q (v .width) (A .lag) (H .r) wide (Q .average-squares .ensures .averages-are) (H .inv .5 .cb-are) (B .add-taps .ensures);
+        cr-are = taps-more (noiseAt (A .cr .now) (A .cr-den .now) v) q (v .width) (A .lag) (H .r) wide (Q .average-squares .ensures .averages-are) (H .inv .5 .cr-are) (R .add-taps2 .ensures);
       },
     )
 
+-- ---- after the loop
+abbrev entered : tie.After-loop Inv-loop μ-loop → tie.Start Inv-loop μ-loop
+entered c = entry (c .before .before .before .before)
+
 same-length : tie.Need-same-length Inv-loop μ-loop
-same-length c = c .before .loop .inv .2 ∙ sym (c .before .before .before .before .before .before .before .before .pre .1)
+same-length c = c .before .loop .inv .0 ∙ sym (entered c .pre .sums-length)
 
 same-length-2 : tie.Need-same-length-2 Inv-loop μ-loop
-same-length-2 c = c .before .loop .inv .3 ∙ sym (c .before .before .before .before .before .before .before .before .pre .2)
+same-length-2 c = c .before .loop .inv .1 ∙ sym (entered c .pre .averages-length)
 
 same-length-3 : tie.Need-same-length-3 Inv-loop μ-loop
-same-length-3 c = c .before .loop .inv .4 ∙ sym (c .before .before .before .before .before .before .before .before .pre .3)
+same-length-3 c = c .before .loop .inv .2 ∙ sym (entered c .pre .line-length)
 
 same-length-4 : tie.Need-same-length-4 Inv-loop μ-loop
-same-length-4 c = size _ _ (c .before .loop .inv .6 .cb-are) ∙ sym (c .before .before .before .before .before .before .before .before .pre .4 .size)
+same-length-4 c = c .before .loop .inv .3 ∙ sym (entered c .pre .row-length)
 
 same-length-5 : tie.Need-same-length-5 Inv-loop μ-loop
-same-length-5 c = size _ _ (c .before .loop .inv .6 .cr-are) ∙ sym (c .before .before .before .before .before .before .before .before .pre .5 .size)
+same-length-5 c = size _ _ (c .before .loop .inv .5 .cb-are) ∙ sym (entered c .pre .cb-nothing .size)
+
+same-length-6 : tie.Need-same-length-6 Inv-loop μ-loop
+same-length-6 c = size _ _ (c .before .loop .inv .5 .cr-are) ∙ sym (entered c .pre .cr-nothing .size)
 
 returns : tie.Need-returns Inv-loop μ-loop
-returns c = taps-done (c .before .before .before .before .before .before .before .before .pre .0) (c .before .loop .y) (le-antisymm (c .before .loop .inv .5) (c .loop-test .left)) (c .before .loop .inv .6)
+returns c = rw (le-antisymm (c .before .loop .inv .4) (c .loop-test .left)) at (c .before .loop .inv .5)
 
 pub tap-rows-spec : {M : Type 1} → statement M
 tap-rows-spec =
@@ -154,9 +176,9 @@ tap-rows-spec =
     add-average-squares
     average-squares-requires
     add-squares
-    tap-row-requires
-    tap-row-requires-2
-    add-y
+    add-taps-requires
+    add-taps-requires-2
+    add-r
     loop-less
     loop-again
     same-length
@@ -164,4 +186,5 @@ tap-rows-spec =
     same-length-3
     same-length-4
     same-length-5
+    same-length-6
     returns)
