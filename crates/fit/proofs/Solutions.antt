@@ -14,22 +14,19 @@ use Rattle.solve.specs.Elimination.{Row, Matrix}
 use Rattle.solve.specs.Answer.{solvedOf}
 use Rattle.solve.specs.declared.Solved.{Solved}
 use Rattle.fit.specs.Steps.{cellOf, rowOf, matrixOf, valueOf, rightOf, zeros, quantised, coefficientsOf}
-use Rattle.fit.specs.Sums.{sumAt, rightAt, exactFit}
+use Rattle.fit.specs.Sums.{cellSum, rightSum, exactFit}
 
-module _ (sums taps : List ℤ) (squares : Float) (n p : ℕ) (a : Matrix) (b : Row) (r : Solved)
-    (ea : a ≡ matrixOf (sumAt sums taps squares n) p) (eb : b ≡ rightOf (rightAt sums taps n) p) (er : r ≡ solvedOf a b p) where
-  pub solution : r .found ≡ true → (x : List ℤ) → x ≡ quantised (r .solution .values) → x ≡ exactFit sums taps squares n p
+module _ (entries : ℕ → ℕ → ℤ) (taps : ℕ → ℤ) (squares : Float) (lag p : ℕ) (a : Matrix) (b : Row) (r : Solved)
+    (ea : a ≡ matrixOf (cellSum entries taps squares lag) p) (eb : b ≡ rightOf (rightSum entries taps lag) p) (er : r ≡ solvedOf a b p) where
+  pub solution : r .found ≡ true → (x : List ℤ) → x ≡ quantised (r .solution .values) → x ≡ exactFit entries taps squares lag p
   unfolding exactFit coefficientsOf
   solution f x e = rw (← ea, ← eb, ← er, f) e
 
-  pub no-solution : r .found ≡ false → zeros ≡ exactFit sums taps squares n p
+  pub no-solution : r .found ≡ false → zeros ≡ exactFit entries taps squares lag p
   unfolding exactFit coefficientsOf
   no-solution f = rw (← ea, ← eb, ← er, f)
 
 -- ---- the same sums
-pub with-sums : (sums sums′ taps : List ℤ) (squares : Float) (n p : ℕ) (r : List ℤ) → sums ≡ sums′ → r ≡ exactFit sums taps squares n p → r ≡ exactFit sums′ taps squares n p
-with-sums sums sums′ taps squares n p r e d = d ∙ ap (λ (z : List ℤ). exactFit z taps squares n p) e
-
 module _ (sum sum′ : ℕ → ℕ → Float) (p : ℕ) (same : (i j : ℕ) → i ≤ j → j < p → sum i j ≡ sum′ i j) where
   cell-same : (i j : ℕ) → cellOf sum p i j ≡ cellOf sum′ p i j
   unfolding cellOf
