@@ -67,12 +67,11 @@ module _ (plane : Pair) (lag : ℕ) (S : Limited planeLimit sampleLimit (own pla
           → ((i : ℕ) → i < factors lag → natAbs (exactTap i) ≤ 2 ^ 53)
           → squares ≡ ofScaled 4 (tapSquare (quarters l) (plane .width) (plane .height) lag)
           → exactFit entries taps squares lag (factors lag) ≡ coefficientsOf (solvedFit plane lag (withTap l plane lag) (factors lag))
-      unfolding exactFit solvedFit cellSum rightSum
+      unfolding exactFit solvedFit cellSum rightSum ofBits
       chroma-exact taps squares e small d =
           λ t. coefficientsOf (solvedOf (matrix-same (cellSum entries taps squares lag) _ (factors lag) cells t) (right-same (rightSum entries taps lag) _ (factors lag) values t) (factors lag))
         where
           tap-read : (i : ℕ) → i < factors lag → div binary64 (ofInt binary64 (taps i)) four ≡ ofScaled 2 (exactTap i)
-          unfolding ofBits
           tap-read i k = ap (λ (z : ℤ). div binary64 (ofInt binary64 z) four) (e i k) ∙ divided 2 _ four (small i k) (refl, refl)
 
           cells : (i j : ℕ) → i ≤ j → j < factors lag → cellSum entries taps squares lag i j ≡ fitF plane lag (withTap l plane lag i) (withTap l plane lag j)

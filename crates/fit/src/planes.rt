@@ -7,6 +7,7 @@ ghost use Rattle.noise.specs.Noise.{noiseOf};
 ghost use Rattle.noise.specs.Seen.{seen, lumaSeen, Seen, SeenFrame};
 ghost use Rattle.positions.specs.Counts.{factors};
 ghost use Rattle.normal.specs.Normal.{entry};
+ghost use Rattle.normal.specs.Layout.{sumsSize};
 ghost use Rattle.fit.specs.Steps.{lumaFit, chromaFit};
 ghost use Rattle.fit.specs.Sums.{exactFit};
 ghost use Rattle.fit.specs.Rooms.{LumaRoom, ComponentRoom, ChromaRoom};
@@ -26,6 +27,15 @@ fn blank_sums() -> [i64; 784] {
 
 fn blank_taps() -> [i64; 25] {
     [0; 25]
+}
+
+// The places for the sums of every two neighbours.
+fn sums_size(lag: usize) -> usize
+    requires { ⌜ lag ≤ 3 ⌝ }
+    ensures { λ r. ⌜ r ≡ sumsSize lag ⌝ }
+{
+    let side = 2 * lag + 1;
+    (lag + 1) * (lag + 1) * (side * side)
 }
 
 // A luma plane that holds a window: zeros where the energy is 0.
@@ -66,7 +76,7 @@ pub fn luma_fit(src: &[u16], den: &[u16], view: View, lag: usize) -> [i32; 25]
     let mut sums = blank_sums();
     let taps = blank_taps();
     let q = 2 * lag * (lag + 1) + 1;
-    let size = normal::sums_size(lag);
+    let size = sums_size(lag);
     luma_coefficients(src, den, view, lag, &taps[..q], &mut sums[..size])
 }
 
@@ -143,7 +153,7 @@ pub fn chroma_fit(
     let mut crtaps = blank_taps();
     let mut sums = blank_sums();
     let q = 2 * lag * (lag + 1) + 1;
-    let size = normal::sums_size(lag);
+    let size = sums_size(lag);
     chroma_coefficients(
         y,
         yden,
