@@ -11,11 +11,12 @@ use Rattle.laws.specs.Window.{Place, window}
 use Rattle.laws.specs.Sets.{In, NoDup}
 use Rattle.laws.proofs.Sets.{length-within}
 use Rattle.laws.proofs.Window.{window-in, length-window}
-use Rattle.frame.specs.Size.{chromaWidth, chromaHeight}
-use Rattle.frame.proofs.Size.{chroma-width-le, chroma-height-le}
+use Rattle.frame.specs.Size.{sampled}
+use Rattle.noise.specs.Noise.{Pair}
 use Rattle.noise.specs.Average.{Luma}
-use Rattle.noise.specs.Products.{Pair, Factor, noiseFrom, average, Inside, Exists}
+use Rattle.noise.specs.Products.{Factor, noiseFrom, average, Inside, Exists}
 use Rattle.noise.specs.Claim.{Limited}
+use Rattle.noise.proofs.Halving.{Bit, bit, sampled-le}
 use Rattle.noise.proofs.Factors.{inside-lt}
 
 map-in : {A B : Type 0} (f : A → B) (x : A) (xs : List A) → In x xs → In (f x) (map f xs)
@@ -51,13 +52,14 @@ module _ (plane : Pair) (dr dc : ℤ) where
       (le-of-eq (length-map (window 0 (plane .height) 0 (plane .width)) back ∙ grid-length (plane .height) (plane .width)))
 
 -- ---- a luma average
-average-places : (luma : Luma) (ps : List Place) → NoDup ps → ((p : Place) → In p ps → Exists (average luma) p) → length ps ≤ luma .width * luma .height
-average-places luma ps n e =
-    let h = chromaHeight (luma .format) (luma .height) in
-    let w = chromaWidth (luma .format) (luma .width) in
+average-places : (luma : Luma) → Bit (luma .sampling .across) → Bit (luma .sampling .down) → (ps : List Place) → NoDup ps → ((p : Place) → In p ps → Exists (average luma) p)
+    → length ps ≤ luma .plane .width * luma .plane .height
+average-places luma x y ps n e =
+    let h = sampled (luma .sampling .down) (luma .plane .height) in
+    let w = sampled (luma .sampling .across) (luma .plane .width) in
     le-trans (length-within ps (window 0 h 0 w) n (λ p k. window-in 0 h 0 w (p .0) (p .1) zero-le (e p k .0) zero-le (e p k .1)))
-    (le-trans (le-of-eq (grid-length h w)) (mul-le-mul (chroma-width-le (luma .format) (luma .width)) (chroma-height-le (luma .format) (luma .height))))
+    (le-trans (le-of-eq (grid-length h w)) (mul-le-mul (sampled-le (luma .sampling .across) (luma .plane .width) x) (sampled-le (luma .sampling .down) (luma .plane .height) y)))
 
 pub places-few : (limit top : ℕ) (u : Factor) (ps : List Place) → Limited limit top u → NoDup ps → ((p : Place) → In p ps → Exists u p) → length ps ≤ limit
 places-few limit top (noiseFrom plane dr dc) ps S n e = le-trans (noise-places plane dr dc ps n e) (S .few)
-places-few limit top (average luma) ps S n e = le-trans (average-places luma ps n e) (S .few)
+places-few limit top (average luma) ps S n e = le-trans (average-places luma (bit (luma .sampling .across) (S .1)) (bit (luma .sampling .down) (S .2)) ps n e) (S .0 .few)

@@ -1,21 +1,19 @@
 -- Where a factor exists its samples lie in their plane, so that in f64 it is exactly its whole number of ones or quarters. Assumes nothing.
 use mathlib.Core.Path.{_≡_, subst}
-use mathlib.Core.Bool.{Bool, true, false, cond}
-use Prim.Native.Nat.{ℕ, _+_, _-_, _*_, _/_, _^_, _<_, _≤_, min}
+use Prim.Native.Nat.{ℕ, _*_, _^_, _<_, _≤_}
 use native.Mathlib.Nat.{one-mul, mul-comm}
-use native.Mathlib.Omega.{arith}
 use lib.Arith.{digits-lt}
-use lib.Dec.{ltb→lt, eqb, leb}
+use lib.Dec.{ltb→lt}
 use lib.IntN.{ℤ, pos, negsuc, natAbs, _+ℤ_}
 use Rattle.laws.specs.Window.{Place}
 use Rattle.laws.specs.Scaled.{Holds}
-use Rattle.frame.specs.Size.{chromaWidth, chromaHeight}
-use Rattle.noise.specs.Noise.{place}
+use Rattle.noise.specs.Noise.{place, Pair}
 use Rattle.noise.specs.Average.{Luma, lumaPlace, quarters}
-use Rattle.noise.specs.Products.{Pair, Factor, noiseFrom, average, Inside, Exists, reached, floatAt, whole}
+use Rattle.noise.specs.Products.{Factor, noiseFrom, average, Inside, Exists, reached, floatAt, whole}
 use Rattle.noise.specs.Claim.{Limited}
 use Rattle.noise.proofs.FloatNoise.{noise-exact}
 use Rattle.noise.proofs.FloatAverage.{average-exact}
+use Rattle.noise.proofs.Halving.{Bit, bit, held-in, some}
 
 -- ---- in the plane
 place-lt : (w h r c : ℕ) → r < h → c < w → place w r c < w * h
@@ -31,16 +29,12 @@ reached-lt plane dr dc p h =
     (inside-lt (plane .height) (pos (p .0) +ℤ dr) (h .0)) (inside-lt (plane .width) (pos (p .1) +ℤ dc) (h .1))
 
 -- an empty plane has no chroma, and in any other the last row and column hold every place
-held : (b d : Bool) (n i m : ℕ) → i < cond b 0 (cond d ((n + 1) / 2) n) → min m (n - 1) < n
-held true d n i m h = omega arith
-held false true n i m h = omega arith
-held false false n i m h = omega arith
-
-luma-lt : (luma : Luma) (p : Place) → Exists (average luma) p → (i j : ℕ) → lumaPlace luma (p .0) (p .1) i j < luma .width * luma .height
-unfolding chromaWidth chromaHeight
-luma-lt luma p h i j =
-    place-lt (luma .width) (luma .height) _ _
-    (held (eqb (luma .format) 0) (eqb (luma .format) 1) (luma .height) (p .0) _ (h .0)) (held (eqb (luma .format) 0) (leb (luma .format) 2) (luma .width) (p .1) _ (h .1))
+luma-lt : (luma : Luma) → Bit (luma .sampling .across) → Bit (luma .sampling .down) → (p : Place) → Exists (average luma) p
+    → (i j : ℕ) → lumaPlace luma (p .0) (p .1) i j < luma .plane .width * luma .plane .height
+luma-lt luma x y p h i j =
+    place-lt (luma .plane .width) (luma .plane .height) _ _
+    (held-in (luma .plane .height) _ (some (luma .sampling .down) (luma .plane .height) (p .0) y (h .0)))
+    (held-in (luma .plane .width) _ (some (luma .sampling .across) (luma .plane .width) (p .1) x (h .1)))
 
 -- ---- in f64: a noise is a whole number of ones, an average one of quarters
 abbrev pub fine : Factor → ℕ
@@ -58,5 +52,8 @@ factor-exact limit top (noiseFrom plane dr dc) p S e room =
     rw q (noise-exact (plane .source) (plane .denoised) (reached plane dr dc p) top
     (S .lowSource (reached plane dr dc p) (reached-lt plane dr dc p e)) (S .lowDenoised (reached plane dr dc p) (reached-lt plane dr dc p e)) (rw q at room))
 factor-exact limit top (average luma) p S e room =
-    average-exact luma (p .0) (p .1) top room
-    (λ i j. S .lowSource (lumaPlace luma (p .0) (p .1) i j) (luma-lt luma p e i j)) (λ i j. S .lowDenoised (lumaPlace luma (p .0) (p .1) i j) (luma-lt luma p e i j))
+    let x = bit (luma .sampling .across) (S .1) in
+    let y = bit (luma .sampling .down) (S .2) in
+    average-exact luma x y (p .0) (p .1) top room
+    (λ i j. S .0 .lowSource (lumaPlace luma (p .0) (p .1) i j) (luma-lt luma x y p e i j))
+    (λ i j. S .0 .lowDenoised (lumaPlace luma (p .0) (p .1) i j) (luma-lt luma x y p e i j))

@@ -13,11 +13,10 @@ use Rattle.laws.specs.Window.{window}
 use Rattle.laws.specs.Law.{Held}
 use Rattle.laws.proofs.Sums.{sum-factor-right}
 use Rattle.laws.proofs.Scaled.{scaled-finer}
-use Rattle.frame.specs.Size.{chromaWidth, chromaHeight}
-use Rattle.noise.specs.Noise.{noise}
+use Rattle.noise.specs.Noise.{noise, Pair, noiseOf}
 use Rattle.noise.specs.Average.{Luma, quarters}
-use Rattle.noise.specs.AverageSums.{averageSquares, averageProducts}
-use Rattle.noise.specs.Products.{Pair, Factor, average, own, Inside, Exists, whole, exactly, scale}
+use Rattle.noise.specs.Seen.{sumOver}
+use Rattle.noise.specs.Products.{Factor, average, own, Inside, Exists, whole, exactly, scale}
 use Rattle.noise.specs.Claim.{Limited, limitOf, PositionsOf}
 use Rattle.noise.specs.Steps.{InFit, near, tap, windowF}
 use Rattle.noise.proofs.Steps.{window-positions, window-sum, grid-sum, own-place, inside-on}
@@ -37,7 +36,7 @@ inside-near n (suc lag) ahead r (negsuc k) h l m b = let q = leb→le k lag (h .
 fit-exists : (plane : Pair) (lag : ℕ) (u : Factor) → InFit plane lag u → (y x : ℕ) → lag ≤ y → y < plane .height → lag ≤ x → x < plane .width - lag → Exists u (y, x)
 fit-exists plane lag u (near dr dc a b c d) y x h k l m =
     (inside-near (plane .height) lag 0 y dr a b h (omega arith), inside-near (plane .width) lag lag x dc c d l (omega arith))
-fit-exists plane lag u (tap luma high wide) y x h k l m = (omega arith, omega arith)
+fit-exists plane lag u (tap luma over) y x h k l m = over y x k (omega arith)
 
 -- the window is a set of positions of any two of the factors
 pub fit-positions : (plane : Pair) (lag : ℕ) (u v : Factor) → InFit plane lag u → InFit plane lag v → PositionsOf u v (window lag (plane .height) lag (plane .width - lag))
@@ -70,14 +69,13 @@ in-quarters g h w =
     ∙ scaled-finer 2 2 (sumTo (λ y. sumTo (g y) w) h)
 
 -- ---- the two sums of the chroma correlation
-module _ (limit top : ℕ) (luma : Luma) (chroma : Pair) (high : chromaHeight (luma .format) (luma .height) ≡ chroma .height) (wide : chromaWidth (luma .format) (luma .width) ≡ chroma .width)
-    (H : Held (limitOf limit top (average luma) (average luma))) (S : Limited limit top (average luma)) where
-  pub squares-sum : windowF (average luma) (average luma) 0 (chroma .height) 0 (chroma .width) ≡ ofScaled 4 (averageSquares luma (chroma .width) (chroma .height))
-  squares-sum = whole-sum limit top chroma (average luma) (average luma) H S S (tap luma high wide) (tap luma high wide)
+module _ (limit top : ℕ) (luma : Luma) (chroma : Pair) (over : InFit chroma 0 (average luma)) (H : Held (limitOf limit top (average luma) (average luma))) (S : Limited limit top (average luma)) where
+  pub squares-sum : windowF (average luma) (average luma) 0 (chroma .height) 0 (chroma .width) ≡ ofScaled 4 (sumOver (chroma .height) (chroma .width) (λ r c. quarters luma r c *ℤ quarters luma r c))
+  squares-sum = whole-sum limit top chroma (average luma) (average luma) H S S over over
 
   pub products-sum : Limited limit top (own chroma)
-      → windowF (average luma) (own chroma) 0 (chroma .height) 0 (chroma .width) ≡ ofScaled 2 (averageProducts luma (chroma .source) (chroma .denoised) (chroma .width) (chroma .height))
+      → windowF (average luma) (own chroma) 0 (chroma .height) 0 (chroma .width) ≡ ofScaled 2 (sumOver (chroma .height) (chroma .width) (λ r c. quarters luma r c *ℤ noiseOf chroma r c))
   products-sum T =
-      whole-sum limit top chroma (average luma) (own chroma) H S T (tap luma high wide) (own-near chroma 0)
+      whole-sum limit top chroma (average luma) (own chroma) H S T over (own-near chroma 0)
       ∙ in-quarters (λ r c. quarters luma r c *ℤ whole chroma (pos 0) (pos 0) (r, c)) (chroma .height) (chroma .width)
-      ∙ ap (ofScaled 2) (λ i. sumTo (λ r. sumTo (λ c. quarters luma r c *ℤ noise (chroma .source) (chroma .denoised) (own-place chroma r c i)) (chroma .width)) (chroma .height))
+      ∙ ap (ofScaled 2) (λ i. sumOver (chroma .height) (chroma .width) (λ r c. quarters luma r c *ℤ noise (chroma .source) (chroma .denoised) (own-place chroma r c i)))

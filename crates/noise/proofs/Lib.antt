@@ -1,10 +1,10 @@
 pub mod Loops
+pub mod Halving
 pub mod FloatNoise
 pub mod FloatAverage
 pub mod Factors
 pub mod Count
 pub mod Products
-pub mod Accepted
 pub mod Steps
 pub mod FitWindow
 pub mod Divided
@@ -17,6 +17,5 @@ pub mod NoiseLines
 pub mod Seen
 pub mod Quarters
 pub mod Averages
-pub mod ChromaSize
-pub mod ChromaSums
-pub mod AlongRows
+pub mod Over
+pub mod Accepted

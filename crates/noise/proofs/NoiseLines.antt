@@ -9,13 +9,14 @@ use lib.IntN.{ℤ, pos, negsuc, natAbs, _*ℤ_}
 use lib.ListN.{length, take, drop, length-take, length-drop}
 use lib.Seq.{getD-take, getD-drop, length-take-le}
 use lib.Signed.{mag-shr}
+use Rattle.laws.specs.Limits.{sideLimit, sampleLimit}
 use Rattle.laws.specs.Table.{tabulate}
 use Rattle.laws.specs.Sums.{sumTo}
 use Rattle.laws.proofs.Sums.{sum-ext, sum-bound}
 use Rattle.laws.proofs.Whole.{abs-mul-le}
 use Rattle.noise.specs.Noise.{noise}
 use Rattle.noise.specs.Shift.{shifted}
-use Rattle.noise.specs.Lines.{at, product, Places, Lines, NoiseLine}
+use Rattle.noise.specs.Lines.{at, product, noiseLimit, Places, Lines, NoiseLine}
 use Rattle.noise.specs.Seen.{squared}
 use Rattle.noise.proofs.Lines.{noise-le}
 use Rattle.noise.proofs.LineSums.{entry, size, are-lines, sum-is, sum-le}
@@ -26,7 +27,7 @@ lines {p} {q} P Q e =
     record {
       same = e;
       few = le-trans (P .few) (lit≤ tt);
-      small = λ i l. lt-of-le-of-lt (mul-le-mul-left 32 (abs-mul-le (at p i) (at q i) 4095 4095 (P .small i l) (Q .small i (lt-of-lt-of-le l (le-of-eq e))))) (lit< tt);
+      small = λ i l. lt-of-le-of-lt (mul-le-mul-left 32 (abs-mul-le (at p i) (at q i) noiseLimit noiseLimit (P .small i l) (Q .small i (lt-of-lt-of-le l (le-of-eq e))))) (lit< tt);
     }
 
 -- ---- with itself `lag` places on
@@ -58,7 +59,7 @@ module _ {line : List ℤ} (L : NoiseLine line) {lag : ℕ} (l : lag ≤ length 
   in-back : (i : ℕ) → i < length back → i < count
   in-back i h = lt-of-lt-of-le h (le-of-eq back-length)
 
-  few : count ≤ 2 ^ 12
+  few : count ≤ sideLimit
   few = omega (arith, L .few)
 
   inside : (i : ℕ) → i < count → i < length line
@@ -86,7 +87,7 @@ module _ {line : List ℤ} (L : NoiseLine line) {lag : ℕ} (l : lag ≤ length 
       ∙ sum-ext (product front back) (λ i. at line i *ℤ at line (i + lag)) count (λ i h j. front-at i h j *ℤ back-at i h j)
 
 -- ---- shifted
-pub shifted-le : (shift : ℕ) (z : ℤ) → natAbs z ≤ 4095 → natAbs (shifted shift z) ≤ 4096
+pub shifted-le : (shift : ℕ) (z : ℤ) → natAbs z ≤ noiseLimit → natAbs (shifted shift z) ≤ sampleLimit
 shifted-le shift (pos n) h = le-trans (mag-shr (pos n) (2 ^ shift)) (le-trans h (lit≤ tt))
 shifted-le shift (negsuc n) h = let d : n / 2 ^ shift ≤ n = mag-shr (negsuc n) (2 ^ shift) in omega arith
 
@@ -103,31 +104,31 @@ module _ {line : List ℤ} (L : NoiseLine line) (shift : ℕ) {n : ℕ} (same : 
   abbrev moved : ℕ → ℤ
   moved i = shifted shift (at line i)
 
-  moved-le : (i : ℕ) → i < n → natAbs (moved i) ≤ 4096
+  moved-le : (i : ℕ) → i < n → natAbs (moved i) ≤ sampleLimit
   moved-le i l = shifted-le shift (at line i) (L .small i (lt-of-lt-of-le l (le-of-eq same)))
 
   pub shifted-lines : Lines 32 out out
-  shifted-lines = are-lines n moved moved 4096 4096 moved-le moved-le e e 32 (lit< tt) (le-trans (le-of-eq same) (le-trans (L .few) (lit≤ tt)))
+  shifted-lines = are-lines n moved moved sampleLimit sampleLimit moved-le moved-le e e 32 (lit< tt) (le-trans (le-of-eq same) (le-trans (L .few) (lit≤ tt)))
 
   pub shifted-sum : sumTo (product out out) (length out) ≡ sumTo (λ i. squared shift (at line i)) (length line)
-  shifted-sum = sum-is n moved moved 4096 4096 moved-le moved-le e e ∙ ap (sumTo (λ i. squared shift (at line i))) same
+  shifted-sum = sum-is n moved moved sampleLimit sampleLimit moved-le moved-le e e ∙ ap (sumTo (λ i. squared shift (at line i))) same
 
 -- ---- the noise of n places
-module _ {source denoised : List ℕ} {start stride n : ℕ} (P : Places (2 ^ 12) source denoised start stride n) where
+module _ {source denoised : List ℕ} {start stride n : ℕ} (P : Places sampleLimit source denoised start stride n) where
   abbrev here : ℕ → ℤ
   here i = noise source denoised (start + i * stride)
 
-  pub squares-le : (shift : ℕ) → natAbs (sumTo (λ i. squared shift (here i)) n) ≤ n * (4096 * 4096)
+  pub squares-le : (shift : ℕ) → natAbs (sumTo (λ i. squared shift (here i)) n) ≤ n * (sampleLimit * sampleLimit)
   squares-le shift =
-      sum-le n (λ i. shifted shift (here i)) (λ i. shifted shift (here i)) 4096 4096 (λ i l. shifted-le shift (here i) (noise-le P i l)) (λ i l. shifted-le shift (here i) (noise-le P i l))
+      sum-le n (λ i. shifted shift (here i)) (λ i. shifted shift (here i)) sampleLimit sampleLimit (λ i l. shifted-le shift (here i) (noise-le P i l)) (λ i l. shifted-le shift (here i) (noise-le P i l))
 
-  pub lagged-le : (lag : ℕ) → natAbs (sumTo (λ i. here i *ℤ here (i + lag)) (n - lag)) ≤ (n - lag) * (4095 * 4095)
+  pub lagged-le : (lag : ℕ) → natAbs (sumTo (λ i. here i *ℤ here (i + lag)) (n - lag)) ≤ (n - lag) * (noiseLimit * noiseLimit)
   lagged-le lag =
-      sum-bound (λ i. here i *ℤ here (i + lag)) (4095 * 4095) (n - lag)
-      (λ i l. abs-mul-le (here i) (here (i + lag)) 4095 4095 (noise-le P i (omega arith)) (noise-le P (i + lag) (omega arith)))
+      sum-bound (λ i. here i *ℤ here (i + lag)) (noiseLimit * noiseLimit) (n - lag)
+      (λ i l. abs-mul-le (here i) (here (i + lag)) noiseLimit noiseLimit (noise-le P i (omega arith)) (noise-le P (i + lag) (omega arith)))
 
   module _ {line : List ℤ} (e : line ≡ tabulate n here) where
-    pub is-noise : n ≤ 2 ^ 12 → NoiseLine line
+    pub is-noise : n ≤ sideLimit → NoiseLine line
     is-noise few =
         record {
           few = le-trans (le-of-eq (size n here e)) few;

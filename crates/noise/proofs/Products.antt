@@ -6,8 +6,8 @@ use native.Mathlib.Nat.{le-trans, le-of-eq, le-refl, lt-of-lt-of-le, zero-lt-suc
 use native.Mathlib.Omega.{arith}
 use lib.Dec.{lit≤}
 use lib.IntN.{ℤ, pos, _*ℤ_}
-use lib.ListN.{length, getD}
-use lib.Pow.{pow-pos, pow-mono}
+use lib.ListN.{length}
+use lib.Pow.{pow-pos}
 use lib.Ieee.{Float}
 use Rattle.laws.specs.Window.{Place}
 use Rattle.laws.specs.Sets.{In}
@@ -16,9 +16,10 @@ use Rattle.laws.proofs.Whole.{abs-mul-le}
 use Rattle.laws.proofs.Scaled.{holds-finer}
 use Rattle.laws.proofs.Limits.{multiplied}
 use Rattle.laws.proofs.Law.{law-of-sums}
-use Rattle.laws.specs.Limits.{planeLimit, sampleLimit}
+use Rattle.laws.specs.Limits.{sideLimit, planeLimit, sampleLimit}
 use Rattle.noise.specs.Average.{quarters}
 use Rattle.noise.specs.Products.{Factor, noiseFrom, average, Exists, floatAt, productF, whole, exactly, scale}
+use Rattle.noise.specs.Lines.{Plane}
 use Rattle.noise.specs.Claim.{Samples, Limited, limitOf, Exact}
 use Rattle.noise.proofs.Count.{places-few}
 use Rattle.noise.proofs.Factors.{fine, parts, factor-exact}
@@ -101,11 +102,10 @@ frame-held (average l) (average m) = record { fine = lit≤ tt; room = lit≤ tt
 pub frame-products-exact : (u v : Factor) → Limited planeLimit sampleLimit u → Limited planeLimit sampleLimit v → Exact planeLimit sampleLimit u v
 frame-products-exact u v S T = products-exact planeLimit sampleLimit u v (frame-held u v) S T
 
--- planes that every question lets pass
-pub frame-samples : (w h depth : ℕ) (source denoised : List ℕ) → w ≤ 4096 → h ≤ 4096 → depth ≤ 12
-    → ((i : ℕ) → i < w * h → getD source i 0 < 2 ^ depth) → ((i : ℕ) → i < w * h → getD denoised i 0 < 2 ^ depth) → Samples planeLimit sampleLimit source denoised (w * h)
-frame-samples w h depth source denoised k l m a b = record {
+-- a plane and its copy that the kernels take
+pub plane-samples : (w h : ℕ) (source denoised : List ℕ) → w ≤ sideLimit → h ≤ sideLimit → Plane w h source denoised → Samples planeLimit sampleLimit source denoised (w * h)
+plane-samples w h source denoised k l P = record {
   few = mul-le-mul k l;
-  lowSource = λ i j. lt-of-lt-of-le (a i j) (pow-mono m);
-  lowDenoised = λ i j. lt-of-lt-of-le (b i j) (pow-mono m);
+  lowSource = λ i j. P .source-low i (rw (P .source-size) j);
+  lowDenoised = λ i j. P .denoised-low i (rw (P .denoised-size) j);
 }

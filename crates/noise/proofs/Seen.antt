@@ -13,23 +13,23 @@ use Rattle.laws.proofs.Table.{getD-tabulate}
 use Rattle.frame.specs.View.{placeAt, viewed, whole}
 use Rattle.frame.specs.declared.view.View.{View}
 use Rattle.frame.proofs.Viewed.{viewed-length, viewed-at, viewed-whole}
-use Rattle.noise.specs.Noise.{noise, place}
-use Rattle.noise.specs.Lines.{Below, Places, Plane}
-use Rattle.noise.specs.Products.{Pair, pair}
-use Rattle.noise.specs.Seen.{seen, noiseOf, noiseAt, Seen, sumOver, squared, SumsOf, CrossOf}
+use Rattle.noise.specs.Noise.{noise, place, pair, noiseOf}
+use Rattle.noise.specs.Lines.{Below, noiseLimit, Places, Plane}
+use Rattle.noise.specs.Seen.{seen, noiseAt, Seen, sumOver, squared, SumsOf, CrossOf}
 use Rattle.noise.specs.declared.sums.PlaneSums.{PlaneSums}
 use Rattle.noise.specs.declared.rows.PairSums.{PairSums}
-use Rattle.noise.proofs.Lines.{noise-below}
+use Rattle.noise.proofs.Lines.{noise-small}
 
 -- ---- a plane and its copy
 module _ {w h : ℕ} {source denoised : List ℕ} (P : Plane w h source denoised) where
   pub place-in : {r c : ℕ} → r < h → c < w → place w r c < length source
   place-in l m = lt-of-lt-of-le (digits-lt l m) (le-of-eq (mul-comm h w ∙ sym (P .source-size)))
 
-  pub plane-noise-le : (r c : ℕ) → r < h → c < w → natAbs (noise source denoised (place w r c)) ≤ 4095
+  pub plane-noise-le : (r c : ℕ) → r < h → c < w → natAbs (noise source denoised (place w r c)) ≤ noiseLimit
   plane-noise-le r c l m =
       let k = place-in l m in
-      noise-below source denoised (P .source-low) (P .denoised-low) (place w r c) k (lt-of-lt-of-le k (le-of-eq (P .source-size ∙ sym (P .denoised-size))))
+      let o = lt-of-lt-of-le k (le-of-eq (P .source-size ∙ sym (P .denoised-size))) in
+      noise-small source denoised (place w r c) (record { in-source = k; in-denoised = o; source-low = P .source-low _ k; denoised-low = P .denoised-low _ o })
 
   -- seen whole
   pub seen-all : w ≤ sideLimit → h ≤ sideLimit → Seen (whole w h) source denoised

@@ -18,9 +18,9 @@ use Rattle.laws.proofs.Sums.{sum-ext, span-zero}
 use Rattle.laws.proofs.Window.{in-window, window-nodup, sum-window}
 use Rattle.laws.proofs.FloatSums.{loops-sum}
 use Rattle.laws.specs.Limits.{planeLimit, sampleLimit}
-use Rattle.noise.specs.Noise.{noise, noiseF, place}
-use Rattle.noise.specs.Seen.{sumOver}
-use Rattle.noise.specs.Products.{Pair, Factor, own, onward, Inside, Exists, reached, productF, exactly, scale}
+use Rattle.noise.specs.Noise.{noise, noiseF, place, Pair}
+use Rattle.noise.specs.Seen.{sumOver, laggedSum}
+use Rattle.noise.specs.Products.{Factor, own, onward, Inside, Exists, reached, productF, exactly, scale}
 use Rattle.noise.specs.Claim.{Limited, limitOf, PositionsOf, Case}
 use Rattle.noise.specs.Steps.{windowF, dotF, lagF}
 use Rattle.noise.proofs.Loops.{loop-rows, loop-tested}
@@ -73,11 +73,6 @@ inside-on n r k h = (leZ-yes (le→leb 0 (r + k) zero-le), ltZ-yes (lt→ltb (r 
 
 pub onward-exists : (p : Pair) (lag r c : ℕ) → r < p .height → c + lag < p .width → Exists (onward p lag) (r, c)
 onward-exists p lag r c h l = (inside-on (p .height) r 0 (omega arith), inside-on (p .width) c lag l)
-
--- their exact sum
-abbrev pub laggedSum : Pair → Pair → ℕ → ℤ
-laggedSum a b lag =
-    sumOver (a .height) (a .width - lag) (λ r c. noise (a .source) (a .denoised) (place (a .width) r c) *ℤ noise (b .source) (b .denoised) (place (a .width) r (c + lag)))
 
 module _ (a b : Pair) (wide : b .width ≡ a .width) (high : b .height ≡ a .height) where
   onward-place : (lag r c : ℕ) → reached b (pos 0) (pos lag) (r, c) ≡ place (a .width) r (c + lag)

@@ -18,10 +18,12 @@ pub record Samples (limit top : ℕ) (source denoised : List ℕ) (count : ℕ) 
   pub lowSource : (i : ℕ) → i < count → getD source i 0 < top
   pub lowDenoised : (i : ℕ) → i < count → getD denoised i 0 < top
 
--- a factor is worked from such planes
+-- a factor is worked from such planes; a luma average, of a format that halves a direction once or not at all
 abbrev pub Limited : ℕ → ℕ → Factor → Type 0
 Limited limit top (noiseFrom plane dr dc) = Samples limit top (plane .source) (plane .denoised) (plane .width * plane .height)
-Limited limit top (average luma) = Samples limit top (luma .source) (luma .denoised) (luma .width * luma .height)
+Limited limit top (average luma) =
+    Samples limit top (luma .plane .source) (luma .plane .denoised) (luma .plane .width * luma .plane .height)
+    × (luma .sampling .across ≤ 1) × (luma .sampling .down ≤ 1)
 
 -- no product is above top × top, and there are no more of them than samples
 abbrev pub limitOf : ℕ → ℕ → Factor → Factor → Limit

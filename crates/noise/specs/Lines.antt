@@ -1,10 +1,11 @@
 -- "noise vectors: noise worked out from two lent planes as needed": a line is a list of numbers, worked out from samples in even steps.
 use mathlib.Core.Path.{_≡_}
 use mathlib.Core.List.{List}
-use Prim.Native.Nat.{ℕ, _+_, _*_, _^_, _≤_, _<_}
+use Prim.Native.Nat.{ℕ, _+_, _-_, _*_, _^_, _≤_, _<_}
 use Rattle.laws.specs.Limits.{sideLimit, sampleLimit}
 use lib.IntN.{ℤ, pos, natAbs, _*ℤ_}
 use lib.ListN.{length, getD}
+use Rattle.noise.specs.Noise.{noise}
 
 -- the number at place i of a line
 abbrev pub at : List ℤ → ℕ → ℤ
@@ -21,6 +22,21 @@ AtMost m line = (i : ℕ) → i < length line → natAbs (at line i) ≤ m
 -- every sample of a plane is below c
 abbrev pub Below : ℕ → List ℕ → Type 0
 Below c plane = (i : ℕ) → i < length plane → getD plane i 0 < c
+
+-- the largest noise of low samples
+abbrev pub noiseLimit : ℕ
+noiseLimit = sampleLimit - 1
+
+-- a place of two planes, where the samples are below a limit
+pub record LowAt (limit : ℕ) (source denoised : List ℕ) (k : ℕ) : Type 0 where
+  pub in-source : k < length source
+  pub in-denoised : k < length denoised
+  pub source-low : getD source k 0 < limit
+  pub denoised-low : getD denoised k 0 < limit
+
+-- the noise at place i of a row
+abbrev pub rowNoise : List ℕ → List ℕ → ℕ → ℕ → ℕ → ℤ
+rowNoise source denoised start stride i = noise source denoised (start + i * stride)
 
 -- n places of two planes of one size, from start on, stride apart; every sample below a limit
 pub record Places (limit : ℕ) (source denoised : List ℕ) (start stride n : ℕ) : Type 0 where
@@ -40,7 +56,7 @@ pub record Plane (w h : ℕ) (source denoised : List ℕ) : Type 0 where
 -- a line of noise of such samples
 pub record NoiseLine (line : List ℤ) : Type 0 where
   pub few : length line ≤ sideLimit
-  pub small : (i : ℕ) → i < length line → natAbs (at line i) ≤ 4095
+  pub small : AtMost noiseLimit line
 
 -- two lines of one length, whose products are so small that an i32 holds the sum of any `size` of them
 pub record Lines (size : ℕ) (p q : List ℤ) : Type 0 where

@@ -18,3 +18,18 @@ noiseF source denoised i =
 -- the place of row r and column c
 abbrev pub place : ℕ → ℕ → ℕ → ℕ
 place w r c = r * w + c
+
+-- a plane and its denoised copy
+pub record Pair : Type 0 where
+  pub source : List ℕ
+  pub denoised : List ℕ
+  pub width : ℕ
+  pub height : ℕ
+
+-- a plane w wide and h high, and its copy
+abbrev pub pair : List ℕ → List ℕ → ℕ → ℕ → Pair
+pair source denoised w h = record { source = source; denoised = denoised; width = w; height = h }
+
+-- the noise at row r and column c
+abbrev pub noiseOf : Pair → ℕ → ℕ → ℤ
+noiseOf p r c = noise (p .source) (p .denoised) (place (p .width) r c)

@@ -1,25 +1,13 @@
 -- "In a fit: of the sample's noise, its neighbours' noises and, for chroma, the luma average, any two multiplied or any one squared.
 -- In a gate: the two frames' noises at one place, or one squared, or, for row correlation, a noise and the one `lag` columns on."
-use mathlib.Core.List.{List}
 use Prim.Native.Nat.{ℕ, _<_}
 use lib.IntN.{ℤ, pos, natAbs, _+ℤ_, _*ℤ_}
 use lib.Signed.{_≤ℤ_, _<ℤ_}
 use lib.Ieee.{Float, binary64, mul}
 use Rattle.laws.specs.Window.{Place}
-use Rattle.frame.specs.Size.{chromaWidth, chromaHeight}
-use Rattle.noise.specs.Noise.{noise, noiseF, place}
+use Rattle.frame.specs.Size.{sampled}
+use Rattle.noise.specs.Noise.{noise, noiseF, place, Pair}
 use Rattle.noise.specs.Average.{Luma, averageF, quarters}
-
--- a plane and its denoised copy
-pub record Pair : Type 0 where
-  pub source : List ℕ
-  pub denoised : List ℕ
-  pub width : ℕ
-  pub height : ℕ
-
--- a plane w wide and h high, and its copy
-abbrev pub pair : List ℕ → List ℕ → ℕ → ℕ → Pair
-pair source denoised w h = record { source = source; denoised = denoised; width = w; height = h }
 
 -- what is multiplied, seen from a place: the noise of a plane some rows down and columns on from there, or the luma average of a chroma place
 pub data Factor : Type 0 where
@@ -40,7 +28,7 @@ Inside n z = (pos 0 ≤ℤ z) × (z <ℤ pos n)
 
 abbrev pub Exists : Factor → Place → Type 0
 Exists (noiseFrom plane dr dc) (r, c) = Inside (plane .height) (pos r +ℤ dr) × Inside (plane .width) (pos c +ℤ dc)
-Exists (average luma) (r, c) = (r < chromaHeight (luma .format) (luma .height)) × (c < chromaWidth (luma .format) (luma .width))
+Exists (average luma) (r, c) = (r < sampled (luma .sampling .down) (luma .plane .height)) × (c < sampled (luma .sampling .across) (luma .plane .width))
 
 -- ---- the product in f64, each factor worked as the Rust does
 abbrev pub reached : Pair → ℤ → ℤ → Place → ℕ

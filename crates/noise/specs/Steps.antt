@@ -1,27 +1,26 @@
 -- "the sums of noise products that the calls make are cases of it": these sums as the Rust adds them, from 0.0, in its order.
 use mathlib.Core.Path.{_≡_}
 use mathlib.Core.Bool.{cond}
-use Prim.Native.Nat.{ℕ, _+_, _*_}
+use Prim.Native.Nat.{ℕ, _+_, _*_, _<_}
 use lib.Dec.{ltb}
 use lib.IntN.{ℤ, pos, negℤ}
 use lib.Signed.{_≤ℤ_}
 use lib.Ieee.{Float, binary64, add, mul}
 use Rattle.laws.specs.Loop.{loop}
 use Rattle.laws.specs.Scaled.{plusZero}
-use Rattle.frame.specs.Size.{chromaWidth, chromaHeight}
-use Rattle.noise.specs.Noise.{noiseF, place}
+use Rattle.noise.specs.Noise.{noiseF, place, Pair}
 use Rattle.noise.specs.Average.{Luma}
-use Rattle.noise.specs.Products.{Pair, Factor, noiseFrom, average, productF}
+use Rattle.noise.specs.Products.{Factor, noiseFrom, average, Exists, productF}
 
 -- the fits, the chroma correlation, the energy in `lag_h_rho`, the row correlation in `film_grain_probe`: `for y in a..b { for x in c..d { sum += u * v; } }`
 unfoldable pub windowF : Factor → Factor → ℕ → ℕ → ℕ → ℕ → Float
 unfolding loop
 windowF u v a b c d = loop a b (λ y. loop c d (λ x s. add binary64 s (productF u v (y, x)))) plusZero
 
--- the factors of a fit, over rows lag..h and columns lag..w - lag: the noises up to `lag` rows above and `lag` columns to either side, the sample's own among them, and for chroma the luma average
+-- the factors of a fit, over rows lag..h and columns lag..w - lag: the noises up to `lag` rows above and `lag` columns to either side, the sample's own among them, and for chroma the luma average, which is there at every place of the plane
 pub data InFit (plane : Pair) (lag : ℕ) : Factor → Type 0 where
   near : (dr dc : ℤ) → negℤ (pos lag) ≤ℤ dr → dr ≤ℤ pos 0 → negℤ (pos lag) ≤ℤ dc → dc ≤ℤ pos lag → InFit plane lag (noiseFrom plane dr dc)
-  tap : (luma : Luma) → chromaHeight (luma .format) (luma .height) ≡ plane .height → chromaWidth (luma .format) (luma .width) ≡ plane .width → InFit plane lag (average luma)
+  tap : (luma : Luma) → ((r c : ℕ) → r < plane .height → c < plane .width → Exists (average luma) (r, c)) → InFit plane lag (average luma)
 
 -- the gates: `dot` of two noise vectors, from plus zero
 unfoldable pub dotF : Pair → Pair → Float

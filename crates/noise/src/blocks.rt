@@ -10,13 +10,11 @@ fn block(p: &[i16], q: &[i16], from: usize, n: usize) -> i32
     requires { ⌜ Lines n (now p) (now q) × (from + n ≤ length (now p)) ⌝ }
     ensures { λ r. ⌜ r ≡ span (product (now (p .entry)) (now (q .entry))) from n ⌝ }
 {
-    let mut sum = 0i32;
-    let mut i = 0usize;
-    while i < n {
+    let mut sum: i32 = 0;
+    for i in 0..n {
         let x = p[from + i] as i32;
         let y = q[from + i] as i32;
-        sum = sum + x * y;
-        i += 1usize;
+        sum += x * y;
     }
     sum
 }
@@ -27,11 +25,11 @@ fn dot_by(p: &[i16], q: &[i16], size: usize) -> i64
     ensures { λ r. ⌜ r ≡ sumTo (product (now (p .entry)) (now (q .entry))) (length (now (p .entry))) ⌝ }
 {
     let n = p.len();
-    let mut sum = 0i64;
-    let mut from = 0usize;
+    let mut sum: i64 = 0;
+    let mut from = 0;
     while size <= n - from {
         let part = block(p, q, from, size) as i64;
-        sum = sum + part;
+        sum += part;
         from += size;
     }
     let rest = block(p, q, from, n - from) as i64;
@@ -43,13 +41,13 @@ pub fn dot(p: &[i16], q: &[i16]) -> i64
     requires { ⌜ Lines 32 (now p) (now q) ⌝ }
     ensures { λ r. ⌜ r ≡ sumTo (product (now (p .entry)) (now (q .entry))) (length (now (p .entry))) ⌝ }
 {
-    dot_by(p, q, 32usize)
+    dot_by(p, q, 32)
 }
 
-// The same for products below 2^28: average × average.
+// p[0] × q[0] + p[1] × q[1] + .., each product below 2^28: average × average.
 pub fn dot_wide(p: &[i16], q: &[i16]) -> i64
     requires { ⌜ Lines 8 (now p) (now q) ⌝ }
     ensures { λ r. ⌜ r ≡ sumTo (product (now (p .entry)) (now (q .entry))) (length (now (p .entry))) ⌝ }
 {
-    dot_by(p, q, 8usize)
+    dot_by(p, q, 8)
 }

@@ -1,18 +1,13 @@
 // Lines of noise and of luma averages, and sums of products of two lines.
 mod average;
 mod blocks;
-mod chroma;
 mod line;
 mod rows;
 mod sums;
 
 pub use average::average_line;
-pub use average::sub_x;
-pub use average::sub_y;
 pub use blocks::dot;
 pub use blocks::dot_wide;
-pub use chroma::AverageSums;
-pub use chroma::average_products;
 pub use line::blank_line;
 pub use line::noise_line;
 pub use line::shifted_line;

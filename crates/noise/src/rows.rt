@@ -1,11 +1,11 @@
 // Sums over two planes of noise: of the second's squares, and of products of both.
 ghost use mathlib.Core.Path.{_≡_};
-ghost use Prim.Native.Nat.{_+_, _*_, _≤_};
+ghost use Prim.Native.Nat.{_≤_};
 ghost use lib.ListN.{length};
 ghost use Rattle.laws.specs.Limits.{sideLimit, sampleLimit};
-ghost use Rattle.noise.specs.Noise.{noise};
-ghost use Rattle.noise.specs.Lines.{Places};
-ghost use Rattle.noise.specs.Seen.{seen, noiseOf, noiseAt, Seen, RowCross, CrossOf};
+ghost use Rattle.noise.specs.Noise.{noiseOf};
+ghost use Rattle.noise.specs.Lines.{rowNoise, Places};
+ghost use Rattle.noise.specs.Seen.{seen, noiseAt, Seen, RowCross, CrossOf};
 use crate::blocks::dot;
 use crate::line::blank_line;
 use crate::line::noise_line;
@@ -29,7 +29,7 @@ fn row_pair(
     q: &mut [i16],
 ) -> PairSums
     requires { ⌜ Places sampleLimit (now src0) (now den0) start stride (length (now p)) × Places sampleLimit (now src1) (now den1) start stride (length (now p)) × (length (now p) ≤ sideLimit) × (length (now q) ≡ length (now p)) ⌝ }
-    ensures { λ s. ⌜ RowCross (λ c. noise (now (src0 .entry)) (now (den0 .entry)) (start + c * stride)) (λ c. noise (now (src1 .entry)) (now (den1 .entry)) (start + c * stride)) (length (now (p .entry))) s ⌝ }
+    ensures { λ s. ⌜ RowCross (rowNoise (now (src0 .entry)) (now (den0 .entry)) start stride) (rowNoise (now (src1 .entry)) (now (den1 .entry)) start stride) (length (now (p .entry))) s ⌝ }
 {
     noise_line(src0, den0, start, stride, p);
     noise_line(src1, den1, start, stride, q);

@@ -1,13 +1,13 @@
 // Sums over one plane of noise: of its squares, shifted and not, and of its products along a row.
 ghost use mathlib.Core.Path.{_≡_};
-ghost use Prim.Native.Nat.{_+_, _-_, _*_, _≤_, _<_};
+ghost use Prim.Native.Nat.{_+_, _-_, _≤_, _<_};
 ghost use lib.IntN.{_*ℤ_};
 ghost use lib.ListN.{length};
 ghost use Rattle.laws.specs.Sums.{sumTo};
 ghost use Rattle.laws.specs.Limits.{sideLimit, sampleLimit};
-ghost use Rattle.noise.specs.Noise.{noise};
-ghost use Rattle.noise.specs.Lines.{at, product, Places, NoiseLine};
-ghost use Rattle.noise.specs.Seen.{seen, noiseOf, noiseAt, Seen, squared, RowSums, SumsOf};
+ghost use Rattle.noise.specs.Noise.{noiseOf};
+ghost use Rattle.noise.specs.Lines.{at, product, rowNoise, Places, NoiseLine};
+ghost use Rattle.noise.specs.Seen.{seen, noiseAt, Seen, squared, RowSums, SumsOf};
 use crate::blocks::dot;
 use crate::line::blank_line;
 use crate::line::noise_line;
@@ -55,7 +55,7 @@ fn row_sums(
     q: &mut [i16],
 ) -> PlaneSums
     requires { ⌜ Places sampleLimit (now src) (now den) start stride (length (now p)) × (length (now p) ≤ sideLimit) × (length (now q) ≡ length (now p)) × (lag ≤ length (now p)) × (shift < 16) ⌝ }
-    ensures { λ s. ⌜ RowSums (λ c. noise (now (src .entry)) (now (den .entry)) (start + c * stride)) (length (now (p .entry))) lag shift s ⌝ }
+    ensures { λ s. ⌜ RowSums (rowNoise (now (src .entry)) (now (den .entry)) start stride) (length (now (p .entry))) lag shift s ⌝ }
 {
     noise_line(src, den, start, stride, p);
     let line = &p[..];

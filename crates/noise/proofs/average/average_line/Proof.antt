@@ -1,60 +1,64 @@
 -- `noise::average::average_line` meets its contract: the sums are those of the luma rows of the chroma row, and their quarters the averages. Assumes nothing.
-use mathlib.Core.Path.{ap, _∙_}
-use Prim.Native.Nat.{ℕ, _+_, _-_, _*_, _^_, min}
-use native.Mathlib.Nat.{le-trans, le-of-eq, lt-of-le-of-lt}
+use mathlib.Core.Path.{_∙_}
+use native.Mathlib.Omega.{arith}
 use borrow.Author.Needs.{needs}
-use lib.Dec.{leb}
-use Rattle.noise.specs.Average.{subY}
-use Rattle.noise.specs.Quarters.{luma}
-use Rattle.noise.proofs.Averages.{bit-le, RowsOf, in-height, sums-small, line-count, line-is}
+use Rattle.noise.specs.Seen.{seen}
+use Rattle.noise.proofs.Averages.{RowsOf, sums-small, line-count, line-is, rows, upper-in, lower-in, row-places, rows-of}
 use Rattle.noise.proofs.average.average_line.Statement.{statement}
 use Rattle.noise.proofs.average.average_line.Tie as tie
 
-luma-row-requires-2 : tie.Need-luma-row-requires-2
-luma-row-requires-2 c κs = (c .before .before .before .before .pre .1, le-trans (le-of-eq (c .sub-y .ensures)) (bit-le (leb (c .before .before .before .before .args .format) 1)))
+mul-upper : tie.Need-mul-upper
+mul-upper c = let A = c .before .before .before .pre in omega (arith, upper-in A, A .luma .low)
+
+add-held : tie.Need-add-held
+add-held c = let A = c .before .before .before .before .pre in omega (arith, upper-in A, A .luma .low, A .down)
+
+mul-added-rows : tie.Need-mul-added-rows
+mul-added-rows c = let A = c .before .before .before .before .before .before .pre in omega (arith, A .luma .rows _ (upper-in A) .begins)
+
+add-added-rows : tie.Need-add-added-rows
+add-added-rows c = let A = c .before .before .before .before .before .before .before .pre in omega (arith, A .luma .rows _ (upper-in A) .begins)
+
+mul-added-rows-2 : tie.Need-mul-added-rows-2
+mul-added-rows-2 c = let A = c .before .before .before .before .before .before .before .before .pre in omega (arith, A .luma .rows _ (lower-in A (c .before .before .before .held .ensures)) .begins)
+
+add-added-rows-2 : tie.Need-add-added-rows-2
+add-added-rows-2 c = let A = c .before .before .before .before .before .before .before .before .before .pre in omega (arith, A .luma .rows _ (lower-in A (c .before .before .before .before .held .ensures)) .begins)
 
 added-rows-requires : tie.Need-added-rows-requires
 added-rows-requires c κs =
-    let S = c .before .before .before .before .before .before in
-    let inside = in-height (luma (S .args .src .now) (S .args .den .now) (S .args .w) (S .args .h) (S .args .format)) (S .pre .0) (S .args .r) (S .pre .1) in
-    (S .pre .0, lt-of-le-of-lt (le-of-eq (c .before .before .before .luma-row .ensures)) (inside _), lt-of-le-of-lt (le-of-eq (c .before .luma-row2 .ensures)) (inside _), S .pre .2)
+    let A = c .before .before .before .before .before .before .before .before .before .before .pre in
+    (row-places A _ (upper-in A), row-places A _ (lower-in A (c .before .before .before .before .before .held .ensures)))
 
 -- the sums, as filled
-rows : (c : tie.After-added-rows) → let A = c .before .before .before .before .before .before .before .args in
-    RowsOf (luma (A .src .now) (A .den .now) (A .w) (A .h) (A .format)) (A .r) (c .added-rows .last .1 .1 .1 .1 .1 .1 .0)
-rows c =
-    let A = c .before .before .before .before .before .before .before .args in
-    record {
-      upper = c .before .before .before .before .luma-row .result;
-      lower = c .before .before .luma-row2 .result;
-      upper-is = c .before .before .before .before .luma-row .ensures;
-      lower-is = c .before .before .luma-row2 .ensures ∙ ap (λ (n : ℕ). min (A .r * 2 ^ subY (A .format) + n) (A .h - 1)) (c .before .before .before .sub-y .ensures);
-      sums-are = c .added-rows .ensures;
-    }
+added : (c : tie.After-added-rows) → let A = c .before .before .before .before .before .before .before .before .before .before .before .args in
+    RowsOf (record { plane = seen (A .view) (A .src .now) (A .den .now); sampling = A .sampling }) (A .r) (c .added-rows .last .1 .1 .1 .1 .1 .0)
+added c = rows-of (c .before .before .before .before .before .before .before .before .before .before .before .pre) (c .before .before .before .before .before .before .held .ensures) (c .added-rows .ensures)
 
 quarters-line-requires : tie.Need-quarters-line-requires
 quarters-line-requires c κs =
-    let S = c .before .before .before .before .before .before .before .before .before .before .before in
-    let T = rows (c .before .before .before .before) in (
-      le-trans (le-of-eq (c .before .sub-x .ensures)) (bit-le (leb (S .args .format) 2)),
-      sums-small _ (S .pre .0) (S .args .r) (S .pre .1) T,
-      line-count _ (S .pre .0) (S .args .r) (S .pre .1) T (S .pre .3) (c .before .sub-x .ensures),
-    )
+    let A = c .before .before .before .before .before .before .before .before .before .before .before .before .before .before .pre in
+    let T = added (c .before .before .before) in
+    (A .across, sums-small _ _ (rows A) T, line-count _ _ (rows A) T (A .line-length))
 
 returns : tie.Need-returns
 returns c =
-    let S = c .before .before .before .before .before .before .before .before .before .before .before .before .before in
-    c .before .quarters-line .ensures ∙ line-is _ (S .pre .0) (S .args .r) (S .pre .1) (rows (c .before .before .before .before .before .before)) (S .pre .3) (c .before .before .before .sub-x .ensures)
+    let A = c .before .before .before .before .before .before .before .before .before .before .before .before .before .before .before .before .pre in
+    c .before .quarters-line .ensures ∙ line-is _ _ (rows A) (added (c .before .before .before .before .before)) (A .line-length)
 
 pub average-line-spec : {M : Type 1} → statement M
 average-line-spec =
     tie.close
     (tie.spec
+    (λ c. search needs)
+    mul-upper
+    add-held
     (λ c κs. search needs)
-    (λ c κs. search needs)
-    luma-row-requires-2
+    mul-added-rows
+    add-added-rows
+    mul-added-rows-2
+    add-added-rows-2
     added-rows-requires
-    (λ c κs. search needs)
     quarters-line-requires
     (λ c. search needs)
     (λ c. search needs)

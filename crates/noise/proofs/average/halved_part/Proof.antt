@@ -16,37 +16,30 @@ use Rattle.noise.proofs.average.halved_part.Statement.{statement}
 use Rattle.noise.proofs.average.halved_part.Tie as tie
 
 abbrev Inv-loop : tie.InvT-loop
-Inv-loop sums from n line₀ i₀ line i = (i ≤ n) × Filled (quartered 1 sums) line₀ line (from + i)
+Inv-loop sums from n line₀ k₀ k-end line k = (k ≤ from + n) × Filled (quartered 1 sums) line₀ line k
 
 abbrev μ-loop : tie.MeasureT-loop
-μ-loop sums from n line₀ i₀ line i = n - i
+μ-loop sums from n line₀ k₀ k-end line k = k-end - k
 
 loop-holds : tie.Need-loop-holds Inv-loop μ-loop
-loop-holds c =
-    let S = c in
-    (omega arith, record { count = omega arith; same = refl; front = tabulate-at _ _ (S .args .from) (S .args .from + 0) (omega arith) (S .pre .3) })
+loop-holds c = (omega arith, record { count = omega arith; same = refl; front = c .pre .3 })
 
 -- what a turn stores
-stored : (c : tie.After-b Inv-loop μ-loop) → let A = c .before .before .before .before .args in
-    let k = A .from + c .before .before .before .loop .i in
+stored : (c : tie.After-line2 Inv-loop μ-loop) → let A = c .before .before .before .before .args in
+    let k = c .before .before .before .loop .k in
     Is w16 (toZ w16 (ofZ w16 (at (A .sums .now) (k * 2))) +ℤ toZ w16 (ofZ w16 (at (A .sums .now) (k * 2 + 1)))) (quartered 1 (A .sums .now) k)
 stored c = even-is _ (c .before .before .before .before .pre .0) _ (omega arith)
 
-add-line : tie.Need-add-line Inv-loop μ-loop
-add-line c = fits (stored c)
+add-line-2 : tie.Need-add-line-2 Inv-loop μ-loop
+add-line-2 c = fits (stored c)
 
 loop-again : tie.Need-loop-again Inv-loop μ-loop
-loop-again c =
-    let A = c .before .before .before .before .args in
-    let H = c .before .before .before .loop in
-    let e : A .from + H .i + 1 ≡ A .from + (H .i + 1) = omega arith in
-    (omega arith, rw e at (fill-turn _ _ _ (H .inv .1) (omega arith) (again (stored c) .eq)))
+loop-again c = (omega arith, fill-turn _ _ _ (c .before .before .before .loop .inv .1) (omega arith) (again (stored c) .eq))
 
 returns : tie.Need-returns Inv-loop μ-loop
 returns c =
     let A = c .before .before .args in
-    let H = c .before .loop in
-    tabulate-at _ _ (A .from + H .i) (A .from + A .n) (omega arith) (H .inv .1 .front)
+    tabulate-at _ _ (c .before .loop .k) (A .from + A .n) (omega arith) (c .before .loop .inv .1 .front)
 
 pub halved-part-spec : {M : Type 1} → statement M
 halved-part-spec =
@@ -54,20 +47,20 @@ halved-part-spec =
     (tie.spec
     Inv-loop
     μ-loop
+    (λ c. search needs)
     loop-holds
     (λ c. search needs)
     (λ c. search needs)
-    (λ c. search needs)
     (λ c. omega arith)
     (λ c. search needs)
     (λ c. search needs)
     (λ c. search needs)
     (λ c. omega arith)
-    add-line
+    add-line-2
     (λ c. search needs)
     (λ c. search needs)
     (λ c. search needs)
-    (λ c. omega arith)
+    (λ c. search needs)
     loop-again
     (λ c. search needs)
     returns)

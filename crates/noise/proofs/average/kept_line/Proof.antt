@@ -2,8 +2,7 @@
 use Prim.Native.Nat.{_-_}
 use native.Mathlib.Omega.{arith}
 use borrow.Author.Needs.{needs}
-use lib.IntN.{pos, _*ℤ_}
-use lib.ListN.{length, length-set}
+use lib.IntN.{_+ℤ_}
 use mir.Syntax.{w16}
 use mir.Val.{ofZ, toZ}
 use Rattle.laws.proofs.Is.{Is, fits, again}
@@ -15,24 +14,18 @@ use Rattle.noise.proofs.average.kept_line.Statement.{statement}
 use Rattle.noise.proofs.average.kept_line.Tie as tie
 
 abbrev Inv-loop : tie.InvT-loop
-Inv-loop sums line₀ i₀ line i = Filled (quartered 0 sums) line₀ line i
+Inv-loop sums line₀ k₀ k-end line k = Filled (quartered 0 sums) line₀ line k
 
 abbrev μ-loop : tie.MeasureT-loop
-μ-loop sums line₀ i₀ line i = length line - i
-
-loop-holds : tie.Need-loop-holds Inv-loop μ-loop
-loop-holds c = fill-starts _ _
+μ-loop sums line₀ k₀ k-end line k = k-end - k
 
 -- what a turn stores
-stored : (c : tie.After-a Inv-loop μ-loop) → let A = c .before .before .before .args in
-    Is w16 (toZ w16 (ofZ w16 (at (A .sums .now) (c .before .before .loop .i))) *ℤ pos 2) (quartered 0 (A .sums .now) (c .before .before .loop .i))
-stored c = kept-is _ (c .before .before .before .pre .0) (c .before .before .loop .i) (omega arith)
+stored : (c : tie.After-a Inv-loop μ-loop) → let z = at (c .before .before .before .args .sums .now) (c .before .before .loop .k) in
+    Is w16 (toZ w16 (ofZ w16 z) +ℤ toZ w16 (ofZ w16 z)) (quartered 0 (c .before .before .before .args .sums .now) (c .before .before .loop .k))
+stored c = kept-is _ (c .before .before .before .pre .0) (c .before .before .loop .k) (omega arith)
 
-mul-line : tie.Need-mul-line Inv-loop μ-loop
-mul-line c = fits (stored c)
-
-loop-less : tie.Need-loop-less Inv-loop μ-loop
-loop-less c = simp length-set (omega arith)
+add-line : tie.Need-add-line Inv-loop μ-loop
+add-line c = fits (stored c)
 
 loop-again : tie.Need-loop-again Inv-loop μ-loop
 loop-again c = fill-turn _ _ _ (c .before .before .loop .inv) (search needs) (again (stored c) .eq)
@@ -46,14 +39,14 @@ kept-line-spec =
     (tie.spec
     Inv-loop
     μ-loop
-    loop-holds
+    (λ c. fill-starts _ _)
     (λ c. search needs)
     (λ c. omega arith)
-    mul-line
+    add-line
     (λ c. search needs)
     (λ c. search needs)
     (λ c. search needs)
-    loop-less
+    (λ c. search needs)
     loop-again
     (λ c. search needs)
     returns)

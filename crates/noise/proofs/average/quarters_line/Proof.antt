@@ -5,7 +5,8 @@ use native.Mathlib.Omega.{arith}
 use borrow.Author.Needs.{needs}
 use lib.ListN.{length}
 use Rattle.laws.specs.Table.{tabulate}
-use Rattle.noise.specs.Quarters.{quartered, columns}
+use Rattle.noise.specs.Quarters.{quartered}
+use Rattle.frame.specs.Size.{sampled}
 use Rattle.noise.proofs.average.quarters_line.Statement.{statement}
 use Rattle.noise.proofs.average.quarters_line.Tie as tie
 
@@ -16,12 +17,12 @@ one sub h k = omega arith
 kept-line-requires : tie.Need-kept-line-requires
 kept-line-requires c κs =
     let S = c .before .before in
-    (S .pre .1, subst (λ (s : ℕ). length (S .args .line .now) ≡ columns s (length (S .args .sums .now))) (c .before .if1 .taken) (S .pre .2))
+    (S .pre .1, subst (λ (s : ℕ). length (S .args .line .now) ≡ sampled s (length (S .args .sums .now))) (c .before .if1 .taken) (S .pre .2))
 
 halved-line-requires : tie.Need-halved-line-requires
 halved-line-requires c κs =
     let S = c .before .before in
-    (S .pre .1, subst (λ (s : ℕ). length (S .args .line .now) ≡ columns s (length (S .args .sums .now))) (one (S .args .sub) (S .pre .0) (c .before .if1 .left)) (S .pre .2))
+    (S .pre .1, subst (λ (s : ℕ). length (S .args .line .now) ≡ sampled s (length (S .args .sums .now))) (one (S .args .sub) (S .pre .0) (c .before .if1 .left)) (S .pre .2))
 
 returns : tie.Need-returns
 returns c =

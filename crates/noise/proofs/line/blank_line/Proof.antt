@@ -3,6 +3,7 @@ use mathlib.Core.Path.{_≡_, refl}
 use Prim.Native.Nat.{ℕ, zero, suc}
 use lib.IntN.{pos}
 use lib.ListN.{getD, replicate}
+use Rattle.laws.specs.Limits.{sideLimit}
 use Rattle.noise.proofs.line.blank_line.Statement.{statement}
 use Rattle.noise.proofs.line.blank_line.Tie as tie
 
@@ -12,7 +13,7 @@ zeros (suc n) zero = refl
 zeros (suc n) (suc i) = zeros n i
 
 returns : tie.Need-returns
-returns c = zeros 4096
+returns c = zeros sideLimit
 
 pub blank-line-spec : {M : Type 1} → statement M
 blank-line-spec = tie.close (tie.spec returns)
