@@ -1,38 +1,38 @@
--- The entries of the normal equations: each stands in the sums of a plane's pairs of rows, and two neighbours may change places. Assumes nothing.
+-- The sum for every two neighbours stands in the sums of a view's pairs of rows: two neighbours may change places, and the view's noise is that of what it shows. Assumes nothing.
 use mathlib.Core.Path.{_≡_, sym, ap, _∙_}
 use mathlib.Core.List.{List}
 use mathlib.Core.Logic.{⊎-elim}
-use Prim.Native.Nat.{ℕ, _+_, _-_, _*_, _/_, _%_, _≤_, _<_, min, max}
+use Prim.Native.Nat.{ℕ, _+_, _-_, _*_, _/_, _%_, _≤_, _<_}
 use native.Mathlib.Nat.{le-of-lt, lt-of-lt-of-le, mod-lt, min-eq-left, min-eq-right, max-eq-left, max-eq-right}
 use native.Mathlib.Omega.{arith}
 use lib.Arith.{digits-div, digits-mod}
 use lib.IntN.{ℤ, _*ℤ_}
 use Rattle.laws.proofs.Sums.{sum-ext}
 use Rattle.laws.proofs.Order.{lt-or-ge}
-use Rattle.noise.specs.Grids.{Rows}
-use Rattle.noise.specs.declared.rows.Grid.{Grid}
+use Rattle.frame.specs.declared.view.View.{View}
+use Rattle.noise.specs.Seen.{Seen, seen, noiseAt, noiseOf}
+use Rattle.noise.proofs.Seen.{noise-seen}
 use Rattle.positions.specs.Counts.{side, factors}
 use Rattle.positions.proofs.Counts.{factors-le}
-use Rattle.normal.specs.Normal.{Picture, neighbour, windowSum, entry, square}
-use Rattle.normal.specs.Calls.{Window}
+use Rattle.normal.specs.Normal.{Picture, neighbour, windowSum, entry}
+use Rattle.normal.specs.Layout.{orderedAt, sumAt}
+use Rattle.normal.specs.Calls.{Window, NeighbourSums}
 use Rattle.normal.specs.Starts.{startSum}
-use Rattle.normal.specs.Blocks.{pairAt}
-use Rattle.normal.specs.Rows.{Plot, PlaneSums, pairSum}
-use Rattle.normal.proofs.Squares.{square-ext}
-use Rattle.normal.proofs.Pairs.{rows-order, row-in, place-in, side-some}
-use Rattle.normal.proofs.Bounds.{window-swap}
+use Rattle.normal.specs.Rows.{Plot, StartSums, pairSum}
+use Rattle.normal.proofs.Ordered.{rows-order, row-in, place-in, side-some}
+use Rattle.normal.proofs.Windows.{window-swap, window-ext, neighbour-row, neighbour-column, InWindow}
 
 -- the window's place y + lag, from the window's first
 pub back : (lag y u : ℕ) → lag + y - lag + u ≡ u + y
 back lag y u = omega arith
 
-module _ (f : Picture) (w h lag : ℕ) {sums : List ℤ} (S : PlaneSums f (w - 2 * lag) (side lag) (lag + 1) (h - lag) sums) where
+module _ (f : Picture) (w h lag : ℕ) {sums : List ℤ} (S : StartSums f (w - 2 * lag) (side lag) (lag + 1) (h - lag) sums) where
   abbrev s : ℕ
   s = side lag
 
-  pair-entry : (i j : ℕ) → i ≤ j → j < (lag + 1) * s → pairAt sums (lag + 1) s i j ≡ entry f w h lag i j
+  ordered-entry : (i j : ℕ) → i ≤ j → j < (lag + 1) * s → orderedAt sums lag i j ≡ entry f w h lag i j
   unfolding pairSum startSum windowSum
-  pair-entry i j o l =
+  ordered-entry i j o l =
       let lo = rows-order (lag + 1) s i j o l in
       let v : i / s + (j / s - i / s) ≡ j / s = omega arith in
       let jn : j % s < s = mod-lt j (side-some (lag + 1) s i j o l) in
@@ -42,20 +42,32 @@ module _ (f : Picture) (w h lag : ℕ) {sums : List ℤ} (S : PlaneSums f (w - 2
       f (sym (back lag y (i / s)) t) ((ap (λ (a : ℕ). a + x) (digits-div (i % s) jn) ∙ sym (back lag x (i % s))) t)
       *ℤ f ((ap (λ (r : ℕ). r + y) v ∙ sym (back lag y (j / s))) t) ((ap (λ (b : ℕ). b + x) (digits-mod (i % s) jn) ∙ sym (back lag x (j % s))) t)))
 
-  any-entry : (i j : ℕ) → i < (lag + 1) * s → j < (lag + 1) * s → pairAt sums (lag + 1) s (min i j) (max i j) ≡ entry f w h lag i j
+  any-entry : (i j : ℕ) → i < factors lag → j < factors lag → sumAt sums lag i j ≡ entry f w h lag i j
   any-entry i j li lj = ⊎-elim later earlier (lt-or-ge j i)
     where
-      earlier : i ≤ j → pairAt sums (lag + 1) s (min i j) (max i j) ≡ entry f w h lag i j
-      earlier o = (λ t. pairAt sums (lag + 1) s (min-eq-left o t) (max-eq-right o t)) ∙ pair-entry i j o lj
+      earlier : i ≤ j → sumAt sums lag i j ≡ entry f w h lag i j
+      earlier o = (λ t. orderedAt sums lag (min-eq-left o t) (max-eq-right o t)) ∙ ordered-entry i j o (lt-of-lt-of-le lj (factors-le lag))
 
-      later : j < i → pairAt sums (lag + 1) s (min i j) (max i j) ≡ entry f w h lag i j
+      later : j < i → sumAt sums lag i j ≡ entry f w h lag i j
       later q =
           let o = le-of-lt q in
-          (λ t. pairAt sums (lag + 1) s (min-eq-right o t) (max-eq-left o t)) ∙ pair-entry j i o li ∙ window-swap w h lag (neighbour f lag j) (neighbour f lag i)
+          (λ t. orderedAt sums lag (min-eq-right o t) (max-eq-left o t)) ∙ ordered-entry j i o (lt-of-lt-of-le li (factors-le lag)) ∙ window-swap w h lag (neighbour f lag j) (neighbour f lag i)
 
-  pub matrix-is : square (factors lag) (λ i j. pairAt sums (lag + 1) s (min i j) (max i j)) ≡ square (factors lag) (entry f w h lag)
-  matrix-is = square-ext (factors lag) _ _ (λ i j li lj. any-entry i j (lt-of-lt-of-le li (factors-le lag)) (lt-of-lt-of-le lj (factors-le lag)))
+-- ---- a view
+module _ (v : View) (source denoised : List ℕ) {lag : ℕ} (W : Window (v .width) (v .height) lag) where
+  pub window-plot : Seen v source denoised → Plot v source denoised (v .width - 2 * lag) (side lag)
+  window-plot S = record { seen = S; wide = omega (arith, W .columns); some = omega arith }
 
--- ---- a plane
-pub window-plot : {source denoised : List ℕ} {g : Grid} {w h lag : ℕ} → Rows source denoised g h w → Window w h lag → Plot source denoised g w h (w - 2 * lag) (side lag)
-window-plot {lag = lag} R W = record { rows = R; narrow = W .narrow; low = W .low; wide = omega (arith, W .columns); some = omega arith }
+  -- a neighbour in the view, and in what it shows
+  pub neighbour-seen : (i : ℕ) → i < factors lag → (y x : ℕ) → InWindow (v .width) (v .height) lag y x
+      → neighbour (noiseAt source denoised v) lag i y x ≡ neighbour (noiseOf (seen v source denoised)) lag i y x
+  neighbour-seen i l y x p = noise-seen v source denoised _ _ (neighbour-row W i l y x p) (neighbour-column W i l y x p)
+
+  pub sums-seen : {sums : List ℤ} → StartSums (noiseAt source denoised v) (v .width - 2 * lag) (side lag) (lag + 1) (v .height - lag) sums → NeighbourSums (seen v source denoised) lag sums
+  sums-seen S =
+      record {
+        size = S .size;
+        entries = λ i j li lj.
+            any-entry (noiseAt source denoised v) (v .width) (v .height) lag S i j li lj
+            ∙ window-ext (v .width) (v .height) lag _ _ _ _ (neighbour-seen i li) (neighbour-seen j lj);
+      }

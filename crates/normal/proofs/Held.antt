@@ -2,7 +2,7 @@
 use mathlib.Core.Path.{_≡_, sym, ap, _∙_}
 use mathlib.Core.List.{List}
 use mathlib.Core.Logic.{⊎-elim}
-use Prim.Native.Nat.{ℕ, _+_, _-_, _*_, _/_, _%_, _^_, _≤_, _<_, min}
+use Prim.Native.Nat.{ℕ, _+_, _-_, _*_, _/_, _%_, _≤_, _<_, min}
 use native.Mathlib.Nat.{le-trans, le-of-eq, lt-of-le-of-lt, add-le-add, mul-le-mul, mul-le-mul-right, min-zero, min-eq-left, min-eq-right, min-le-right}
 use native.Mathlib.Omega.{arith}
 use lib.Arith.{digits-lt, digits-div, digits-mod}
@@ -13,13 +13,15 @@ use Rattle.laws.specs.Sums.{total, sumTo}
 use Rattle.laws.proofs.Sums.{sum-more, sum-bound}
 use Rattle.laws.proofs.Whole.{abs-add}
 use Rattle.laws.proofs.Order.{lt-or-ge}
-use Rattle.noise.specs.Grids.{noiseAt}
-use Rattle.noise.specs.declared.rows.Grid.{Grid}
+use Rattle.laws.specs.Limits.{sideLimit}
+use Rattle.frame.specs.declared.view.View.{View}
+use Rattle.noise.specs.Seen.{noiseAt}
 use Rattle.normal.specs.Normal.{Picture}
-use Rattle.normal.specs.Starts.{startSum}
-use Rattle.normal.specs.Blocks.{blockAt, ifPassed, Room, Added}
-use Rattle.normal.specs.Rows.{Plot, RowTables, PlaneSums, Zeros, pairSum}
-use Rattle.normal.proofs.Squares.{quotient, remainder}
+use Rattle.normal.specs.Layout.{blockAt}
+use Rattle.normal.specs.Starts.{startSum, noiseMost, byBlocks}
+use Rattle.normal.specs.Blocks.{Zeros, ifPassed, Room, Added}
+use Rattle.normal.specs.Rows.{Plot, RowTables, StartSums, pairSum}
+use Rattle.normal.proofs.Places.{quotient, remainder}
 use Rattle.normal.proofs.Passing.{passed-before, passed-after, passed-now}
 use Rattle.normal.proofs.RowLines.{rows-bound}
 
@@ -44,7 +46,7 @@ module _ (f : Picture) (n side starts rows : ℕ) where
       }
 
   -- after the last row
-  pub held-ends : {sums : List ℤ} (r : ℕ) → Held f n side starts rows r sums → rows + starts ≤ r + 1 → PlaneSums f n side starts rows sums
+  pub held-ends : {sums : List ℤ} (r : ℕ) → Held f n side starts rows r sums → rows + starts ≤ r + 1 → StartSums f n side starts rows sums
   held-ends r H h =
       record {
         size = H .size;
@@ -68,7 +70,7 @@ module _ (f : Picture) (n side starts rows : ℕ) where
     passed m = pairSum f n side apart above m c
 
     abbrev rowsSum : ℤ
-    rowsSum = startSum (f (r - apart)) (f r) n (c / side) (c % side)
+    rowsSum = byBlocks side (startSum (f (r - apart)) (f r) n) c
 
     stays : (m m′ : ℕ) → m ≡ m′ → ifPassed rows r low rowsSum ≡ pos 0 → passed m +ℤ ifPassed rows r low rowsSum ≡ passed m′
     stays m m′ e d = ap (λ (z : ℤ). passed m +ℤ z) d ∙ +ℤ-idr (passed m) ∙ ap passed e
@@ -79,8 +81,8 @@ module _ (f : Picture) (n side starts rows : ℕ) where
         let u : r - apart ≡ above + (r - low) = omega arith in
         let v : r ≡ above + apart + (r - low) = omega arith in
         let m : r - low + 1 ≡ r + 1 - low = omega arith in
-        ap (λ (z : ℤ). passed (r - low) +ℤ z) (passed-now rows r low rowsSum h l ∙ (λ i. startSum (f (u i)) (f (v i)) n (c / side) (c % side)))
-        ∙ sum-more (λ y. startSum (f (above + y)) (f (above + apart + y)) n (c / side) (c % side)) (r - low)
+        ap (λ (z : ℤ). passed (r - low) +ℤ z) (passed-now rows r low rowsSum h l ∙ (λ i. byBlocks side (startSum (f (u i)) (f (v i)) n) c))
+        ∙ sum-more (λ y. byBlocks side (startSum (f (above + y)) (f (above + apart + y)) n) c) (r - low)
         ∙ ap passed m
 
     pub pair-more : passed (min rows (r - low)) +ℤ ifPassed rows r low rowsSum ≡ passed (min rows (r + 1 - low))
@@ -114,21 +116,27 @@ module _ (f : Picture) (n side starts rows : ℕ) where
       where
         table : (z c : ℕ) → z < starts * starts → c < k
             → ifPassed rows r (z / starts + z % starts) (blockAt tables k (z / starts) c)
-            ≡ ifPassed rows r (z / starts + z % starts) (startSum (f (r - z / starts)) (f r) n (c / side) (c % side))
+            ≡ ifPassed rows r (z / starts + z % starts) (byBlocks side (startSum (f (r - z / starts)) (f r) n) c)
         table z c h l = ⊎-elim (λ b. passed-before _ _ _ _ b ∙ sym (passed-before _ _ _ _ b)) (λ b. ap (ifPassed rows r (z / starts + z % starts)) (T .there (z / starts) c (quotient starts z h) (omega arith) l)) (lt-or-ge r (z / starts + z % starts))
 
 -- ---- sums of noise: they leave room for another row
-module _ {source denoised : List ℕ} {g : Grid} {w h n side : ℕ} (P : Plot source denoised g w h n side) (starts rows r : ℕ) (in-rows : r < h) where
+module _ {v : View} {source denoised : List ℕ} {n side : ℕ} (P : Plot v source denoised n side) (starts rows r : ℕ) (in-rows : r < v .height) where
   abbrev noises : Picture
-  noises = noiseAt source denoised g
+  noises = noiseAt source denoised v
 
-  passed-bound : (apart above m c : ℕ) → apart + above + m ≤ r → c < side * side → natAbs (pairSum noises n side apart above m c) ≤ 2 ^ 12 * 2 ^ 36
+  abbrev most : ℕ
+  most = sideLimit * (noiseMost * noiseMost)
+
+  pair-le : (u l c : ℕ) → u < v .height → l < v .height → c < side * side → natAbs (byBlocks side (startSum (noises u) (noises l) n) c) ≤ most
+  pair-le u l c hu hl q = rows-bound P u l hu hl (c / side) (c % side) (quotient side c q) (remainder side c q)
+
+  passed-bound : (apart above m c : ℕ) → apart + above + m ≤ r → c < side * side → natAbs (pairSum noises n side apart above m c) ≤ sideLimit * most
   unfolding pairSum
   passed-bound apart above m c l q =
-      let few : m ≤ 2 ^ 12 = omega (arith, P .low) in
-      le-trans (sum-bound (λ y. startSum (noises (above + y)) (noises (above + apart + y)) n (c / side) (c % side)) (2 ^ 36) m
-      (λ y k. rows-bound P (above + y) (above + apart + y) (omega arith) (omega arith) (c / side) (c % side) (quotient side c q) (remainder side c q)))
-      (mul-le-mul-right (2 ^ 36) few)
+      let few : m ≤ sideLimit = omega (arith, P .seen .low) in
+      le-trans (sum-bound (λ y. byBlocks side (startSum (noises (above + y)) (noises (above + apart + y)) n) c) most m
+      (λ y k. pair-le (above + y) (above + apart + y) c (omega arith) (omega arith) q))
+      (mul-le-mul-right most few)
 
   pub held-room : {sums tables : List ℤ} → Held noises n side starts rows r sums → RowTables noises n side starts r tables → Room sums tables starts r (side * side)
   held-room H T =
@@ -140,7 +148,7 @@ module _ {source denoised : List ℕ} {g : Grid} {w h n side : ℕ} (P : Plot so
             let low = z / starts + z % starts in
             let m = min rows (r - low) in
             lt-of-le-of-lt (le-of-eq (λ i. natAbs (H .there z c l q i +ℤ T .there (z / starts) c (quotient starts z l) (omega arith) q i)))
-            (lt-of-le-of-lt (abs-add (pairSum noises n side (z / starts) (z % starts) m c) (startSum (noises (r - z / starts)) (noises r) n (c / side) (c % side)))
+            (lt-of-le-of-lt (abs-add (pairSum noises n side (z / starts) (z % starts) m c) (byBlocks side (startSum (noises (r - z / starts)) (noises r) n) c))
             (lt-of-le-of-lt (add-le-add (passed-bound (z / starts) (z % starts) m c (omega (arith, min-le-right rows (r - low))) q)
-            (rows-bound P (r - z / starts) r (omega arith) in-rows (c / side) (c % side) (quotient side c q) (remainder side c q))) (lit< tt)));
+            (pair-le (r - z / starts) r c (omega arith) in-rows q)) (lit< tt)));
       }

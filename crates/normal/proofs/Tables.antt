@@ -10,8 +10,8 @@ use lib.IntN.{ℤ}
 use lib.ListN.{length}
 use Rattle.noise.specs.Lines.{at}
 use Rattle.normal.specs.Starts.{startSum, Next}
-use Rattle.normal.proofs.StartSums.{start-swap}
-use Rattle.normal.proofs.Squares.{place-back, first-row}
+use Rattle.normal.proofs.Overlaps.{start-swap}
+use Rattle.normal.proofs.Places.{place-back, first-row}
 
 module _ {up lo : List ℤ} {twin : Bool} {n side a b : ℕ} {table : List ℤ} (N : Next up lo twin n side a b table) (a-on : 0 < a) where
   abbrev sums : ℕ → ℕ → ℤ

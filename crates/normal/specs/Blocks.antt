@@ -8,14 +8,12 @@ use lib.Dec.{leb, ltb}
 use lib.IntN.{ℤ, pos, natAbs, _+ℤ_}
 use lib.ListN.{length}
 use Rattle.noise.specs.Lines.{at}
+use Rattle.normal.specs.Layout.{blockAt}
 
--- number c of block z
-abbrev pub blockAt : List ℤ → ℕ → ℕ → ℕ → ℤ
-blockAt l k z c = at l (z * k + c)
-
--- for places i and j of a square of neighbours, counted along its rows, i not after j: the block of their rows, and their columns in it
-abbrev pub pairAt : List ℤ → ℕ → ℕ → ℕ → ℕ → ℤ
-pairAt l starts side i j = blockAt l (side * side) ((j / side - i / side) * starts + i / side) (i % side * side + j % side)
+-- a list of zeros
+pub record Zeros (n : ℕ) (l : List ℤ) : Type 0 where
+  pub size : length l ≡ n
+  pub zero : (i : ℕ) → i < n → at l i ≡ pos 0
 
 -- two lists of one length whose sums an i64 holds
 pub record Addable (sums more : List ℤ) : Type 0 where

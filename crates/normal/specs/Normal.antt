@@ -1,9 +1,7 @@
 -- "In a fit: of the sample's noise, its neighbours' noises and, for chroma, the luma average, any two multiplied or any one squared." The exact sums of these products over the places where a fit has all its factors.
-use mathlib.Core.List.{List}
 use Prim.Native.Nat.{ℕ, _+_, _-_, _*_, _/_, _%_}
 use lib.IntN.{ℤ, _*ℤ_}
 use Rattle.laws.specs.Sums.{span}
-use Rattle.laws.specs.Table.{tabulate}
 use Rattle.positions.specs.Counts.{side}
 
 -- a number for each row y and column x
@@ -28,7 +26,3 @@ tapEntry f q w h lag i = windowSum w h lag (neighbour f lag i) q
 
 abbrev pub tapSquare : Picture → ℕ → ℕ → ℕ → ℤ
 tapSquare q w h lag = windowSum w h lag q q
-
--- f i j for i and j below n, row after row
-abbrev pub square : ℕ → (ℕ → ℕ → ℤ) → List ℤ
-square n f = tabulate (n * n) (λ z. f (z / n) (z % n))

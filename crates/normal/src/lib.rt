@@ -1,10 +1,9 @@
 // The exact normal equations of a fit: sums of noise products over its window.
 mod blocks;
-mod plane;
+mod neighbours;
 mod rows;
 mod starts;
 mod table;
-mod tap;
 
-pub use plane::plane_sums;
-pub use tap::tap_sums;
+pub use neighbours::neighbour_sum;
+pub use neighbours::neighbour_sums;

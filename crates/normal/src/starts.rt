@@ -1,16 +1,16 @@
 // Sums of the products of two lines, by the place at which each starts.
 ghost use mathlib.Core.Path.{_≡_};
-ghost use Prim.Native.Nat.{_+_, _^_, _≤_, _<_};
+ghost use Prim.Native.Nat.{_+_, _<_};
 ghost use lib.IntN.{_*ℤ_};
 ghost use lib.ListN.{length};
 ghost use Rattle.noise.specs.Lines.{at};
-ghost use Rattle.normal.specs.Starts.{startSum, Small, Pair};
+ghost use Rattle.normal.specs.Starts.{startSum, averageMost, Overlap, Noisy};
 use noise::dot;
 use noise::dot_wide;
 
 // up[a] × lo[b] + up[a + 1] × lo[b + 1] + .., n products.
 pub fn start_sum(up: &[i16], lo: &[i16], n: usize, a: usize, b: usize) -> i64
-    requires { ⌜ Pair (now up) (now lo) n a b ⌝ }
+    requires { ⌜ Noisy (now up) (now lo) n a b ⌝ }
     ensures { λ r. ⌜ r ≡ startSum (at (now (up .entry))) (at (now (lo .entry))) n a b ⌝ }
 {
     let up_end = a + n;
@@ -20,7 +20,7 @@ pub fn start_sum(up: &[i16], lo: &[i16], n: usize, a: usize, b: usize) -> i64
 
 // line[a]² + line[a + 1]² + .., n squares of luma averages.
 pub fn square_sum(line: &[i16], n: usize, a: usize) -> i64
-    requires { ⌜ (a + n ≤ length (now line)) × (n ≤ 2 ^ 12) × Small (2 ^ 14) (now line) ⌝ }
+    requires { ⌜ Overlap averageMost averageMost (now line) (now line) n a a ⌝ }
     ensures { λ r. ⌜ r ≡ startSum (at (now (line .entry))) (at (now (line .entry))) n a a ⌝ }
 {
     let end = a + n;
@@ -40,7 +40,7 @@ fn product_at(up: &[i16], lo: &[i16], a: usize, b: usize) -> i64
 
 // The sum one place on: less the first product, and one product more.
 pub fn slid_sum(up: &[i16], lo: &[i16], n: usize, a: usize, b: usize, before: i64) -> i64
-    requires { ⌜ Pair (now up) (now lo) n (a + 1) (b + 1) × (before ≡ startSum (at (now up)) (at (now lo)) n a b) ⌝ }
+    requires { ⌜ Noisy (now up) (now lo) n (a + 1) (b + 1) × (before ≡ startSum (at (now up)) (at (now lo)) n a b) ⌝ }
     ensures { λ r. ⌜ r ≡ startSum (at (now (up .entry))) (at (now (lo .entry))) n (a + 1) (b + 1) ⌝ }
 {
     let first = product_at(up, lo, a, b);

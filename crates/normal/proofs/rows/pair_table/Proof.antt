@@ -1,11 +1,13 @@
 -- `normal::rows::pair_table` meets its contract: the lines hold the two rows. Assumes nothing.
 use mathlib.Core.Bool.{false≢true}
-use mathlib.Core.Path.{_≡_, refl, ap, _∙_}
-use Prim.Native.Nat.{ℕ, _-_}
+use mathlib.Core.Path.{_≡_, refl, sym, ap, _∙_, subst}
+use Prim.Native.Nat.{ℕ, _+_, _-_, _*_}
 use native.Mathlib.Omega.{arith}
-use Rattle.noise.specs.Grids.{noiseAt}
-use Rattle.normal.specs.Normal.{square}
-use Rattle.normal.specs.Starts.{startSum}
+use Rattle.laws.specs.Limits.{sampleLimit}
+use Rattle.laws.specs.Table.{tabulate}
+use Rattle.noise.specs.Lines.{Places}
+use Rattle.noise.specs.Seen.{noiseAt}
+use Rattle.normal.specs.Starts.{startSum, byRows}
 use Rattle.normal.proofs.RowLines.{rows-strip, rows-table}
 use borrow.Author.Needs.{needs}
 use Rattle.normal.proofs.rows.pair_table.Statement.{statement}
@@ -14,32 +16,42 @@ use Rattle.normal.proofs.rows.pair_table.Tie as tie
 line-table-requires : tie.Need-line-table-requires
 line-table-requires c κs =
     let S = c .before .before .before .before in
-    (rows-strip (S .pre .0) (S .args .r) (S .args .r) (omega arith) (omega arith) (S .pre .2) (S .pre .2), (λ e. refl), S .pre .3)
+    let P = S .pre in
+    (rows-strip (P .plot) (S .args .r) (S .args .r) (P .row) (P .row) (P .lo-is) (P .lo-is), (λ e. refl), P .table-length)
 
-grid-line-requires : tie.Need-grid-line-requires
-grid-line-requires c κs = let S = c .before .before .before .before in S .pre .0 .rows (S .args .r - S .args .d) (omega arith)
+noise-row-requires : tie.Need-noise-row-requires
+noise-row-requires c κs =
+    let S = c .before .before .before .before in
+    rw (S .pre .up-length) (S .pre .plot .seen .rows (S .args .r - S .args .d) (omega arith))
+
+-- the line `up` holds the upper row
+upper : (c : tie.After-noise-row) → let A = c .before .before .before .before .before .args in c .noise-row .last .1 .1 .1 .1 .0 ≡ tabulate (A .view .width) (noiseAt (A .src .now) (A .den .now) (A .view) (A .r - A .d))
+upper c =
+    let S = c .before .before .before .before .before in
+    c .noise-row .ensures ∙ ap (λ (m : ℕ). tabulate m (noiseAt (S .args .src .now) (S .args .den .now) (S .args .view) (S .args .r - S .args .d))) (S .pre .up-length)
 
 line-table-requires-2 : tie.Need-line-table-requires-2
 line-table-requires-2 c κs =
     let S = c .before .before .before .before .before .before .before .before in
-    (rows-strip (S .pre .0) (S .args .r - S .args .d) (S .args .r) (omega arith) (omega arith) (c .before .before .before .grid-line .ensures) (S .pre .2), (λ e. absurd (false≢true e)), S .pre .3)
+    let P = S .pre in
+    (rows-strip (P .plot) (S .args .r - S .args .d) (S .args .r) (omega arith) (P .row) (upper (c .before .before .before)) (P .lo-is), (λ e. absurd (false≢true e)), P .table-length)
 
 returns : tie.Need-returns
 returns c =
     let S = c .before .before .before .before .before .before in
     let A = S .args in
-    let f = noiseAt (A .src .now) (A .den .now) (A .grid) in
+    let f = noiseAt (A .src .now) (A .den .now) (A .view) in
     let same : A .r ≡ A .r - A .d = omega (arith, c .before .before .before .if1 .taken) in
     c .before .line-table .ensures
-    ∙ rows-table (S .pre .0) (A .r) (A .r) (omega arith) (omega arith) (S .pre .2) (S .pre .2)
-    ∙ ap (λ (u : ℕ). square (A .side) (startSum (f u) (f (A .r)) (A .n))) same
+    ∙ rows-table (S .pre .plot) (A .r) (A .r) (S .pre .row) (S .pre .row) (S .pre .lo-is) (S .pre .lo-is)
+    ∙ ap (λ (u : ℕ). byRows (A .side) (startSum (f u) (f (A .r)) (A .n))) same
 
 returns-2 : tie.Need-returns-2
 returns-2 c =
     let S = c .before .before .before .before .before .before .before .before .before .before in
     let A = S .args in
     c .before .line-table2 .ensures
-    ∙ rows-table (S .pre .0) (A .r - A .d) (A .r) (omega arith) (omega arith) (c .before .before .before .before .before .grid-line .ensures) (S .pre .2)
+    ∙ rows-table (S .pre .plot) (A .r - A .d) (A .r) (omega arith) (S .pre .row) (upper (c .before .before .before .before .before)) (S .pre .lo-is)
 
 pub pair-table-spec : {M : Type 1} → statement M
 pair-table-spec =
@@ -47,7 +59,7 @@ pair-table-spec =
     (tie.spec
     line-table-requires
     (λ c. search needs)
-    grid-line-requires
+    noise-row-requires
     line-table-requires-2
     (λ c. search needs)
     returns

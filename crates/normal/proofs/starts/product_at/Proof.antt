@@ -3,7 +3,7 @@ use lib.IntN.{ℤ, _*ℤ_}
 use mir.Syntax.{w64}
 use Rattle.laws.proofs.Is.{Is, again, fits}
 use Rattle.noise.specs.Lines.{at}
-use Rattle.normal.proofs.StartSums.{wide, wide64, product64}
+use Rattle.normal.proofs.Overlaps.{wide, wide64, product64}
 use borrow.Author.Needs.{needs}
 use Rattle.normal.proofs.starts.product_at.Statement.{statement}
 use Rattle.normal.proofs.starts.product_at.Tie as tie

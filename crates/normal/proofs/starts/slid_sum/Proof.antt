@@ -7,7 +7,7 @@ use mir.Val.{toZ, ofZ}
 use Rattle.laws.proofs.Is.{again, fits}
 use Rattle.noise.specs.Lines.{at}
 use Rattle.normal.specs.Starts.{startSum}
-use Rattle.normal.proofs.StartSums.{kept, less-is, slid-is}
+use Rattle.normal.proofs.Overlaps.{kept, less-is, slid-is}
 use borrow.Author.Needs.{needs}
 use Rattle.normal.proofs.starts.slid_sum.Statement.{statement}
 use Rattle.normal.proofs.starts.slid_sum.Tie as tie

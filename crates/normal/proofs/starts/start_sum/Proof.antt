@@ -1,16 +1,16 @@
 -- `normal::starts::start_sum` meets its contract: it is the dot product of two parts. Assumes nothing.
 use mathlib.Core.Path.{_∙_}
-use Rattle.laws.proofs.Is.{again, self}
-use Rattle.normal.proofs.StartSums.{pair-lines, pair-sum}
+use lib.Dec.{lit<}
+use Rattle.normal.proofs.Overlaps.{kept, overlap-lines, overlap-sum}
 use borrow.Author.Needs.{needs}
 use Rattle.normal.proofs.starts.start_sum.Statement.{statement}
 use Rattle.normal.proofs.starts.start_sum.Tie as tie
 
 dot-requires : tie.Need-dot-requires
-dot-requires c κs = pair-lines (c .before .before .pre)
+dot-requires c κs = overlap-lines (c .before .before .pre) 32 (lit< tt)
 
 returns : tie.Need-returns
-returns c = again (self (record { sfits = c .dot .ok })) .eq ∙ c .dot .ensures ∙ pair-sum (c .before .before .before .pre)
+returns c = kept (record { sfits = c .dot .ok }) (c .dot .ensures ∙ overlap-sum (c .before .before .before .pre))
 
 pub start-sum-spec : {M : Type 1} → statement M
 start-sum-spec =

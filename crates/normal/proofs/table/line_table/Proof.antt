@@ -1,33 +1,41 @@
 -- `normal::table::line_table` meets its contract: the table is filled in row order. Assumes nothing.
-use Prim.Native.Nat.{_+_, _-_, _*_, _<_}
+use mathlib.Core.Path.{_≡_, sym, ap, _∙_, subst}
+use Prim.Native.Nat.{ℕ, _+_, _-_, _*_, _≤_, _<_}
+use native.Mathlib.Nat.{le-trans, le-of-eq, lt-of-lt-of-le, mul-le-mul-right, zero-mul, add-zero, add-assoc}
 use native.Mathlib.Omega.{arith}
-use lib.IntN.{pos}
+use lib.Arith.{digits-lt}
 use lib.ListN.{length}
+use Rattle.laws.specs.Table.{tabulate}
 use Rattle.noise.specs.Lines.{at}
-use Rattle.normal.specs.Starts.{startSum}
-use Rattle.normal.proofs.StartSums.{kept}
-use Rattle.normal.proofs.Squares.{Square, square-starts, square-at, square-in, square-turn, square-row, square-ends}
+use Rattle.normal.specs.Starts.{startSum, byBlocks}
+use Rattle.normal.proofs.Overlaps.{kept}
+use Rattle.normal.proofs.Places.{row-end, block-at}
+use Rattle.normal.proofs.Reached.{Reached, reached-starts, reached-inside, reached-turn, reached-after, reached-ends}
 use borrow.Author.Needs.{needs}
 use Rattle.normal.proofs.table.line_table.Statement.{statement}
 use Rattle.normal.proofs.table.line_table.Tie as tie
 
 abbrev Inv-loop2 : tie.InvT-loop2
-Inv-loop2 up lo twin n side table₀ a b₀ table b = Square (startSum (at up) (at lo) n) side table a b
+Inv-loop2 up lo twin n side table₀ a b₀ table b = (b ≤ side) × (length table ≡ side * side) × Reached (byBlocks side (startSum (at up) (at lo) n)) table₀ table (a * side + b)
 
 abbrev μ-loop2 : tie.MeasureT-loop2
 μ-loop2 up lo twin n side table₀ a b₀ table b = side - b
 
 abbrev Inv-loop : tie.InvT-loop
-Inv-loop up lo twin n side table₀ a₀ table a = Square (startSum (at up) (at lo) n) side table a 0
+Inv-loop up lo twin n side table₀ a₀ table a = (a ≤ side) × (length table ≡ side * side) × Reached (byBlocks side (startSum (at up) (at lo) n)) table₀ table (a * side)
 
 abbrev μ-loop : tie.MeasureT-loop
 μ-loop up lo twin n side table₀ a₀ table a = side - a
 
 loop-holds : tie.Need-loop-holds Inv-loop2 μ-loop2 Inv-loop μ-loop
-loop-holds c = square-starts _ _ (c .pre .2)
+loop-holds c = let A = c .args in
+    (omega arith, c .pre .2, subst (λ (k : ℕ). Reached (byBlocks (A .side) (startSum (at (A .up .now)) (at (A .lo .now)) (A .n))) (A .table .now) (A .table .now) k) (sym (zero-mul (A .side))) (reached-starts _ _))
 
 loop2-holds : tie.Need-loop2-holds Inv-loop2 μ-loop2 Inv-loop μ-loop
-loop2-holds c = c .before .loop .inv
+loop2-holds c =
+    let A = c .before .before .args in
+    let H = c .before .loop in
+    (omega arith, H .inv .1, subst (λ (k : ℕ). Reached (byBlocks (A .side) (startSum (at (A .up .now)) (at (A .lo .now)) (A .n))) (H .table) (H .table) k) (sym (add-zero (H .a * A .side))) (reached-inside _ _ (H .a * A .side) (H .inv .2)))
 
 next-sum-requires : tie.Need-next-sum-requires Inv-loop2 μ-loop2 Inv-loop μ-loop
 next-sum-requires c κs =
@@ -38,13 +46,13 @@ next-sum-requires c κs =
       same = S .pre .1;
       up-start = search needs;
       lo-start = search needs;
-      size = H .inv .size;
-      known = λ z h. square-at _ _ (c .before .before .before .before .loop .a) (H .b) (H .inv) z (pos 0) h;
+      size = H .inv .1;
+      known = H .inv .2 .there;
     }
 
 -- the place that a turn fills
 place : (c : tie.In-loop2 Inv-loop2 μ-loop2 Inv-loop μ-loop) → c .before .before .before .loop .a * c .before .before .before .before .args .side + c .before .loop2 .b < length (c .before .loop2 .table)
-place c = square-in _ _ (c .before .before .before .loop .a) (c .before .loop2 .b) (c .before .loop2 .inv) (c .before .before .loop-test .taken) (c .loop2-test .taken)
+place c = lt-of-lt-of-le (digits-lt (c .before .before .loop-test .taken) (c .loop2-test .taken)) (le-of-eq (sym (c .before .loop2 .inv .1)))
 
 mul-sum : tie.Need-mul-sum Inv-loop2 μ-loop2 Inv-loop μ-loop
 mul-sum c = omega (arith, place (c .before .before))
@@ -61,14 +69,29 @@ slice-set-from-sum c = place (c .before .before)
 loop2-again : tie.Need-loop2-again Inv-loop2 μ-loop2 Inv-loop μ-loop
 loop2-again c =
     let C = c .before .before in
-    square-turn _ _ (C .before .before .before .loop .a) (C .before .loop2 .b) (C .before .loop2 .inv) (C .before .before .loop-test .taken) (C .loop2-test .taken)
-    _ (kept (record { sfits = c .next-sum .ok }) (c .next-sum .ensures))
+    let A = C .before .before .before .before .args in
+    let H = C .before .loop2 in
+    let a = C .before .before .before .loop .a in (
+      omega arith,
+      search needs,
+      rw (← add-assoc (a * A .side) (H .b) 1)
+          (reached-turn _ _ (a * A .side + H .b) (H .inv .2) _ (lt-of-lt-of-le (place C) (le-of-eq (H .inv .2 .same)))
+          (kept (record { sfits = c .next-sum .ok }) (c .next-sum .ensures) ∙ sym (block-at (A .side) (startSum (at (A .up .now)) (at (A .lo .now)) (A .n)) a (H .b) (C .loop2-test .taken)))),
+    )
 
 loop-again : tie.Need-loop-again Inv-loop2 μ-loop2 Inv-loop μ-loop
-loop-again c = square-row _ _ (c .before .before .before .loop .a) (c .before .loop2 .b) (c .before .loop2 .inv) (search needs) (search needs)
+loop-again c =
+    let H = c .before .before .before .loop in
+    let n = c .before .before .before .before .args .side in
+    let e : c .before .loop2 .b ≡ n = omega arith in
+    (omega arith, c .before .loop2 .inv .1, rw (row-end n (H .a)) (reached-after _ _ (H .a * n) (H .inv .2) (H .a * n + n) (omega arith) (rw e at (c .before .loop2 .inv .2))))
 
 returns : tie.Need-returns Inv-loop2 μ-loop2 Inv-loop μ-loop
-returns c = square-ends _ _ (c .before .loop .a) (c .before .loop .inv) (search needs)
+returns c =
+    let S = c .before .before in
+    let H = c .before .loop in
+    reached-ends _ _ (H .a * S .args .side) (H .inv .2) (le-trans (le-of-eq (S .pre .2)) (mul-le-mul-right (S .args .side) (c .loop-test .left)))
+    ∙ ap (λ (k : ℕ). tabulate k (byBlocks (S .args .side) (startSum (at (S .args .up .now)) (at (S .args .lo .now)) (S .args .n)))) (S .pre .2)
 
 pub line-table-spec : {M : Type 1} → statement M
 line-table-spec =

@@ -5,7 +5,7 @@ use native.Mathlib.Omega.{arith}
 use lib.ListN.{length}
 use Rattle.noise.specs.Lines.{at}
 use Rattle.normal.specs.Starts.{startSum}
-use Rattle.normal.proofs.StartSums.{kept}
+use Rattle.normal.proofs.Overlaps.{kept}
 use Rattle.normal.proofs.Tables.{back-in, back-is, mirror-in, mirror-is}
 use borrow.Author.Needs.{needs}
 use Rattle.normal.proofs.table.next_sum.Statement.{statement}

@@ -1,20 +1,21 @@
 -- Sums of products by where two lines start: one place on, with the lines exchanged, their size, and as the dot product of two parts. Assumes nothing.
 use mathlib.Core.Path.{_≡_, sym, ap, _∙_, subst}
 use mathlib.Core.List.{List}
-use Prim.Native.Nat.{ℕ, _+_, _-_, _*_, _^_, _≤_, _<_}
-use native.Mathlib.Nat.{le-trans, le-of-lt, lt-of-le-of-lt, mul-le-mul-left, mul-le-mul-right, add-assoc, add-zero, add-le-add, le-of-suc-le-suc}
+use Prim.Native.Nat.{ℕ, _+_, _*_, _^_, _≤_, _<_}
+use native.Mathlib.Nat.{le-trans, le-of-lt, lt-of-le-of-lt, mul-le-mul-left, mul-le-mul-right, add-assoc, add-zero, add-le-add}
 use native.Mathlib.Omega.{arith}
 use lib.Dec.{lit<, lit≤}
 use lib.IntN.{ℤ, pos, negsuc, natAbs, _+ℤ_, _-ℤ_, _*ℤ_, *ℤ-comm}
 use lib.ListN.{length}
 use mir.Syntax.{Width, w16, w64}
 use mir.Val.{SFits, ofZ, toZ}
+use Rattle.laws.specs.Limits.{sideLimit}
 use Rattle.laws.specs.Sums.{sumTo}
 use Rattle.laws.proofs.Sums.{sum-ext, sum-bound, slide}
 use Rattle.laws.proofs.Whole.{abs-sub, abs-mul-le}
 use Rattle.laws.proofs.Is.{Is, self, again, wider, times, known}
 use Rattle.noise.specs.Lines.{at, product, Lines}
-use Rattle.normal.specs.Starts.{startSum, Small, Pair}
+use Rattle.normal.specs.Starts.{startSum, noiseMost, averageMost, Overlap, Noisy}
 use Rattle.normal.proofs.Stored.{part, part-length, part-at}
 
 module _ (f g : ℕ → ℤ) (n a b : ℕ) where
@@ -33,7 +34,7 @@ module _ (f g : ℕ → ℤ) (n a b : ℕ) where
   unfolding startSum
   start-swap = sum-ext term (λ x. g (b + x) *ℤ f (a + x)) n (λ x l. *ℤ-comm (f (a + x)) (g (b + x)))
 
-  -- the same terms
+  -- equal terms
   pub start-ext : (f′ g′ : ℕ → ℤ) → ((x : ℕ) → x < n → f (a + x) ≡ f′ (a + x)) → ((x : ℕ) → x < n → g (b + x) ≡ g′ (b + x)) → startSum f g n a b ≡ startSum f′ g′ n a b
   unfolding startSum
   start-ext f′ g′ p q = sum-ext term (λ x. f′ (a + x) *ℤ g′ (b + x)) n (λ x l i. p x l i *ℤ q x l i)
@@ -42,57 +43,39 @@ module _ (f g : ℕ → ℤ) (n a b : ℕ) where
   unfolding startSum
   start-bound c d p q = sum-bound term (c * d) n (λ x l. abs-mul-le (f (a + x)) (g (b + x)) c d (p x l) (q x l))
 
--- ---- two parts of lines whose numbers are at most c and d in size
-module _ (up lo : List ℤ) (n a b c d : ℕ) (up-long : a + n ≤ length up) (lo-long : b + n ≤ length lo)
-    (up-le : (x : ℕ) → x < n → natAbs (at up (a + x)) ≤ c) (lo-le : (x : ℕ) → x < n → natAbs (at lo (b + x)) ≤ d) where
+-- ---- the parts that overlap
+module _ {c d : ℕ} {up lo : List ℤ} {n a b : ℕ} (O : Overlap c d up lo n a b) where
+  up-le : (x : ℕ) → x < n → natAbs (at up (a + x)) ≤ c
+  up-le x h = O .up-small (a + x) (omega (arith, O .up-long))
+
+  lo-le : (x : ℕ) → x < n → natAbs (at lo (b + x)) ≤ d
+  lo-le x h = O .lo-small (b + x) (omega (arith, O .lo-long))
+
+  up-size : length (part up a n) ≡ n
+  up-size = part-length up a n (O .up-long)
+
   products : (x : ℕ) → x < n → product (part up a n) (part lo b n) x ≡ at up (a + x) *ℤ at lo (b + x)
   products x h i = part-at up a n x h i *ℤ part-at lo b n x h i
 
-  pub parts-lines : (count : ℕ) → count * (c * d) < 2 ^ 31 → n ≤ 2 ^ 12 → Lines count (part up a n) (part lo b n)
-  parts-lines count fits few =
+  -- an i32 holds the sum of `count` products
+  pub overlap-lines : (count : ℕ) → count * (c * d) < 2 ^ 31 → Lines count (part up a n) (part lo b n)
+  overlap-lines count fits =
       record {
-        same = part-length up a n up-long ∙ sym (part-length lo b n lo-long);
-        few = rw (part-length up a n up-long) (le-trans few (lit≤ tt));
-        small = λ x h. let l : x < n = rw (part-length up a n up-long) at h in
+        same = up-size ∙ sym (part-length lo b n (O .lo-long));
+        few = rw up-size (le-trans (O .few) (lit≤ tt));
+        small = λ x h. let l : x < n = rw up-size at h in
             subst (λ (z : ℤ). count * natAbs z < 2 ^ 31) (sym (products x l))
             (lt-of-le-of-lt (mul-le-mul-left count (abs-mul-le (at up (a + x)) (at lo (b + x)) c d (up-le x l) (lo-le x l))) fits);
       }
 
-  pub parts-sum : sumTo (product (part up a n) (part lo b n)) (length (part up a n)) ≡ startSum (at up) (at lo) n a b
+  pub overlap-sum : sumTo (product (part up a n) (part lo b n)) (length (part up a n)) ≡ startSum (at up) (at lo) n a b
   unfolding startSum
-  parts-sum =
-      ap (λ (m : ℕ). sumTo (product (part up a n) (part lo b n)) m) (part-length up a n up-long)
+  overlap-sum =
+      ap (λ (m : ℕ). sumTo (product (part up a n) (part lo b n)) m) up-size
       ∙ sum-ext (product (part up a n) (part lo b n)) (λ x. at up (a + x) *ℤ at lo (b + x)) n products
 
--- ---- a line of noise, and one of noise or of averages
-module _ {up lo : List ℤ} {n a b : ℕ} (P : Pair up lo n a b) where
-  up-le : (x : ℕ) → x < n → natAbs (at up (a + x)) ≤ 2 ^ 12 - 1
-  up-le x h = le-of-suc-le-suc (P .up-small (a + x) (omega (arith, P .up-long)))
-
-  lo-le : (x : ℕ) → x < n → natAbs (at lo (b + x)) ≤ 2 ^ 14 - 1
-  lo-le x h = le-of-suc-le-suc (P .lo-small (b + x) (omega (arith, P .lo-long)))
-
-  pub pair-lines : Lines 32 (part up a n) (part lo b n)
-  pair-lines = parts-lines up lo n a b (2 ^ 12 - 1) (2 ^ 14 - 1) (P .up-long) (P .lo-long) up-le lo-le 32 (lit< tt) (P .few)
-
-  pub pair-sum : sumTo (product (part up a n) (part lo b n)) (length (part up a n)) ≡ startSum (at up) (at lo) n a b
-  pair-sum = parts-sum up lo n a b (2 ^ 12 - 1) (2 ^ 14 - 1) (P .up-long) (P .lo-long) up-le lo-le
-
-  pub pair-bound : natAbs (startSum (at up) (at lo) n a b) ≤ 2 ^ 38
-  pair-bound =
-      le-trans (start-bound (at up) (at lo) n a b (2 ^ 12 - 1) (2 ^ 14 - 1) up-le lo-le)
-      (le-trans (mul-le-mul-right ((2 ^ 12 - 1) * (2 ^ 14 - 1)) (P .few)) (lit≤ tt))
-
--- ---- a line of averages and itself
-module _ (line : List ℤ) (n a : ℕ) (long : a + n ≤ length line) (few : n ≤ 2 ^ 12) (small : Small (2 ^ 14) line) where
-  line-le : (x : ℕ) → x < n → natAbs (at line (a + x)) ≤ 2 ^ 14 - 1
-  line-le x h = le-of-suc-le-suc (small (a + x) (omega arith))
-
-  pub own-lines : Lines 8 (part line a n) (part line a n)
-  own-lines = parts-lines line line n a a (2 ^ 14 - 1) (2 ^ 14 - 1) long long line-le line-le 8 (lit< tt) few
-
-  pub own-sum : sumTo (product (part line a n) (part line a n)) (length (part line a n)) ≡ startSum (at line) (at line) n a a
-  own-sum = parts-sum line line n a a (2 ^ 14 - 1) (2 ^ 14 - 1) long long line-le line-le
+  overlap-bound : natAbs (startSum (at up) (at lo) n a b) ≤ sideLimit * (c * d)
+  overlap-bound = le-trans (start-bound (at up) (at lo) n a b c d up-le lo-le) (mul-le-mul-right (c * d) (O .few))
 
 -- ---- as the code computes them: an i16 as an i64, and the product of two
 pub wide64 : (z : ℤ) → SFits w16 z → Is w64 (toZ w16 (ofZ w16 z)) z
@@ -114,20 +97,21 @@ pub kept : {w : Width} {z y : ℤ} → SFits w z → z ≡ y → toZ w (ofZ w z)
 kept h e = again (self h) .eq ∙ e
 
 -- one place on: m, x and y hold the sum before, its first product and the next one
-module _ {up lo : List ℤ} {n : ℕ} (a b : ℕ) (P : Pair up lo n (a + 1) (b + 1)) {m x y : ℤ}
+module _ {up lo : List ℤ} {n : ℕ} (a b : ℕ) (O : Noisy up lo n (a + 1) (b + 1)) {m x y : ℤ}
     (em : m ≡ startSum (at up) (at lo) n a b) (ex : x ≡ at up a *ℤ at lo b) (ey : y ≡ at up (a + n) *ℤ at lo (b + n)) where
-  earlier : Pair up lo n a b
-  earlier = record { up-long = omega (arith, P .up-long); lo-long = omega (arith, P .lo-long); few = P .few; up-small = P .up-small; lo-small = P .lo-small }
+  earlier : Noisy up lo n a b
+  earlier = record { up-long = omega (arith, O .up-long); lo-long = omega (arith, O .lo-long); few = O .few; up-small = O .up-small; lo-small = O .lo-small }
 
-  product-le : (i j : ℕ) → i < length up → j < length lo → natAbs (at up i *ℤ at lo j) ≤ 2 ^ 12 * 2 ^ 14
-  product-le i j h k = abs-mul-le (at up i) (at lo j) (2 ^ 12) (2 ^ 14) (le-of-lt (P .up-small i h)) (le-of-lt (P .lo-small j k))
+  first-le : natAbs (at up a *ℤ at lo b) ≤ noiseMost * averageMost
+  first-le =
+      abs-mul-le (at up a) (at lo b) noiseMost averageMost (O .up-small a (omega (arith, O .up-long))) (O .lo-small b (omega (arith, O .lo-long)))
 
   pub less-is : Is w64 (m -ℤ x) (startSum (at up) (at lo) n a b -ℤ at up a *ℤ at lo b)
   less-is =
       known (λ i. em i -ℤ ex i)
       (lt-of-le-of-lt (abs-sub (startSum (at up) (at lo) n a b) (at up a *ℤ at lo b))
-      (lt-of-le-of-lt (add-le-add (pair-bound earlier) (product-le a b (omega (arith, P .up-long)) (omega (arith, P .lo-long)))) (lit< tt)))
+      (lt-of-le-of-lt (add-le-add (overlap-bound earlier) first-le) (lit< tt)))
 
   pub slid-is : Is w64 (toZ w64 (ofZ w64 (m -ℤ x)) +ℤ y) (startSum (at up) (at lo) n (a + 1) (b + 1))
   slid-is =
-      known ((λ i. again less-is .eq i +ℤ ey i) ∙ start-slid (at up) (at lo) n a b) (lt-of-le-of-lt (pair-bound P) (lit< tt))
+      known ((λ i. again less-is .eq i +ℤ ey i) ∙ start-slid (at up) (at lo) n a b) (lt-of-le-of-lt (overlap-bound O) (lit< tt))
