@@ -11,8 +11,9 @@ use Rattle.noise.specs.Average.{Luma}
 use Rattle.noise.specs.Products.{Factor, average, own}
 use Rattle.noise.specs.Claim.{Limited}
 use Rattle.noise.specs.Seen.{SeenFrame}
-use Rattle.noise.specs.Steps.{InFit, tap}
-use Rattle.noise.proofs.Accepted.{fit-seen, seen-limited}
+use Rattle.noise.specs.Steps.{InFit}
+use Rattle.noise.proofs.Accepted.{fit-seen}
+use Rattle.noise.proofs.Over.{seen-samples, tap-over, luma-limited}
 use Rattle.noise.proofs.Products.{frame-products-exact}
 use Rattle.noise.proofs.Steps.{window-case}
 use Rattle.noise.proofs.FitWindow.{fit-positions, own-near}
@@ -47,13 +48,13 @@ chroma-cases luma plane lag a L S = record {
 -- ---- of an accepted call
 module _ (s : Shape) (y cb cr y-denoised cb-denoised cr-denoised : List ℕ) (lag : ℕ) (passed : fitRefusal s y cb cr y-denoised cb-denoised cr-denoised lag ≡ 0) where
   visible : SeenFrame (geometryOf s) y y-denoised cb cb-denoised cr cr-denoised
-  visible = fit-seen s y cb cr y-denoised cb-denoised cr-denoised lag passed
+  visible = fit-seen s y cb cr y-denoised cb-denoised cr-denoised lag passed .0
 
   pub luma-sums : PlaneCases (lumaOf s y y-denoised .plane) lag
-  luma-sums = plane-cases _ lag (seen-limited (visible .luma))
+  luma-sums = plane-cases _ lag (seen-samples (visible .luma))
 
   pub cb-sums : ChromaCases (lumaOf s y y-denoised) (planeOf s cb cb-denoised) lag
-  cb-sums = chroma-cases _ _ lag ? (seen-limited (visible .luma)) (seen-limited (visible .cb))
+  cb-sums = chroma-cases _ _ lag (tap-over (visible .over) _ _ _ _ lag) (luma-limited (visible .over) (visible .luma)) (seen-samples (visible .cb))
 
   pub cr-sums : ChromaCases (lumaOf s y y-denoised) (planeOf s cr cr-denoised) lag
-  cr-sums = chroma-cases _ _ lag ? (seen-limited (visible .luma)) (seen-limited (visible .cr))
+  cr-sums = chroma-cases _ _ lag (tap-over (visible .over) _ _ _ _ lag) (luma-limited (visible .over) (visible .luma)) (seen-samples (visible .cr))

@@ -20,8 +20,8 @@ use Rattle.noise.specs.Noise.{Pair, noiseOf}
 use Rattle.noise.specs.Products.{own}
 use Rattle.noise.specs.Claim.{Limited}
 use Rattle.positions.specs.Counts.{neighbours}
-use Rattle.normal.specs.Normal.{windowSum, entry}
-use Rattle.normal.proofs.Bounds.{window-ext, sample-last}
+use Rattle.normal.specs.Normal.{neighbour, windowSum, entry}
+use Rattle.normal.proofs.Windows.{InWindow, window-ext, sample-last}
 use Rattle.fit.specs.Steps.{energyF}
 use Rattle.fit.specs.Words.{energy}
 use Rattle.fit.proofs.FloatEntries.{energy-sum}
@@ -56,7 +56,10 @@ zero-is = refl
 -- ---- the energy
 module _ (plane : Pair) (lag : ℕ) where
   energy-is : entry (noiseOf plane) (plane .width) (plane .height) lag (neighbours lag) (neighbours lag) ≡ energy plane lag
-  energy-is = window-ext (plane .width) (plane .height) lag _ _ _ _ (sample-last (noiseOf plane) lag) (sample-last (noiseOf plane) lag)
+  energy-is = window-ext (plane .width) (plane .height) lag _ _ _ _ last last
+    where
+      last : (y x : ℕ) → InWindow (plane .width) (plane .height) lag y x → neighbour (noiseOf plane) lag (neighbours lag) y x ≡ noiseOf plane y x
+      last y x p = sample-last (noiseOf plane) lag y x (p .above) (p .left)
 
   not-negative : pos 0 ≤ℤ energy plane lag
   unfolding windowSum

@@ -16,7 +16,7 @@ use Rattle.noise.proofs.Products.{frame-held}
 use Rattle.noise.proofs.FitWindow.{fit-sum, in-quarters}
 use Rattle.positions.specs.Counts.{side, neighbours, factors}
 use Rattle.normal.specs.Normal.{Picture, neighbour, entry, tapEntry, tapSquare}
-use Rattle.normal.proofs.Bounds.{window-rows, window-ext, window-swap}
+use Rattle.normal.proofs.Windows.{InWindow, window-rows, window-ext, window-swap}
 use Rattle.fit.specs.Steps.{neighbourOf, fitF, energyF}
 use Rattle.fit.proofs.Near.{counted, is-counted, counted-near, last-own, counted-noise}
 
@@ -31,8 +31,8 @@ module _ (plane : Pair) (lag : ℕ) where
   abbrev reached : ℕ → Picture
   reached i y x = whole plane (pos (i / side lag) -ℤ pos lag) (pos (i % side lag) -ℤ pos lag) (y, x)
 
-  is-neighbour : (i y x : ℕ) → lag ≤ y → lag ≤ x → reached i y x ≡ neighbour (noiseOf plane) lag i y x
-  is-neighbour i y x = counted-noise plane lag i y x
+  is-neighbour : (i y x : ℕ) → InWindow w h lag y x → reached i y x ≡ neighbour (noiseOf plane) lag i y x
+  is-neighbour i y x p = counted-noise plane lag i y x (p .above) (p .left)
 
   module _ (S : Limited planeLimit sampleLimit (own plane)) where
     pub noise-sum : (i j : ℕ) → i < factors lag → j < factors lag
@@ -64,7 +64,7 @@ module _ (plane : Pair) (lag : ℕ) where
           (λ t. fitF plane lag (is-counted plane lag i a t) (average l))
           ∙ fit-sum planeLimit sampleLimit plane (counted plane lag i) (average l) (frame-held (counted plane lag i) (average l)) S L lag (counted-near plane lag i a) tapped
           ∙ in-quarters (λ y x. reached i (lag + y) (lag + x) *ℤ quarters l (lag + y) (lag + x)) (h - lag) (w - lag - lag)
-          ∙ ap (ofScaled 2) (sym (window-rows w h lag (reached i) (quarters l)) ∙ window-ext w h lag _ _ _ _ (is-neighbour i) (λ y x c d. refl))
+          ∙ ap (ofScaled 2) (sym (window-rows w h lag (reached i) (quarters l)) ∙ window-ext w h lag _ _ _ _ (is-neighbour i) (λ y x p. refl))
 
       tap-first : (i : ℕ) → i < factors lag → fitF plane lag (average l) (neighbourOf plane lag i) ≡ ofScaled 2 (tapEntry (noiseOf plane) (quarters l) w h lag i)
       unfolding fitF
@@ -72,7 +72,7 @@ module _ (plane : Pair) (lag : ℕ) where
           (λ t. fitF plane lag (average l) (is-counted plane lag i a t))
           ∙ fit-sum planeLimit sampleLimit plane (average l) (counted plane lag i) (frame-held (average l) (counted plane lag i)) L S lag tapped (counted-near plane lag i a)
           ∙ in-quarters (λ y x. quarters l (lag + y) (lag + x) *ℤ reached i (lag + y) (lag + x)) (h - lag) (w - lag - lag)
-          ∙ ap (ofScaled 2) (sym (window-rows w h lag (quarters l) (reached i)) ∙ window-ext w h lag _ _ _ _ (λ y x c d. refl) (is-neighbour i) ∙ window-swap w h lag (quarters l) (neighbour (noiseOf plane) lag i))
+          ∙ ap (ofScaled 2) (sym (window-rows w h lag (quarters l) (reached i)) ∙ window-ext w h lag _ _ _ _ (λ y x p. refl) (is-neighbour i) ∙ window-swap w h lag (quarters l) (neighbour (noiseOf plane) lag i))
 
       pub own-sum : fitF plane lag (average l) (own plane) ≡ ofScaled 2 (tapEntry (noiseOf plane) (quarters l) w h lag (neighbours lag))
       own-sum = ap (fitF plane lag (average l)) (sym (last-own plane lag)) ∙ tap-first (neighbours lag) (omega arith)

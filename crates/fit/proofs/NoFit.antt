@@ -4,7 +4,7 @@ use mathlib.Core.Bool.{Bool, true, false, cond, _||_, true≢false, and-eq-true-
 use mathlib.Core.List.{List}
 use mathlib.Core.Logic.{⊎-elim}
 use Prim.Native.Nat.{ℕ, zero, suc, _*_, _^_, _≤_, _<_}
-use native.Mathlib.Nat.{le-trans, lt-of-lt-of-le, le-of-suc-le-suc, eq-or-lt-of-le, le-suc, le-refl}
+use native.Mathlib.Nat.{le-of-lt, le-trans, lt-of-lt-of-le, le-of-suc-le-suc, eq-or-lt-of-le, le-suc, le-refl}
 use native.Mathlib.Omega.{arith}
 use lib.Dec.{eqb, leb}
 use lib.IntN.{ℤ, pos, natAbs}
@@ -24,9 +24,12 @@ use Rattle.noise.specs.Noise.{Pair, noiseOf}
 use Rattle.noise.specs.Products.{own}
 use Rattle.noise.specs.Claim.{Limited}
 use Rattle.noise.specs.Seen.{Seen}
+use Rattle.noise.proofs.Accepted.{fit-seen}
+use Rattle.noise.proofs.Over.{seen-samples}
 use Rattle.positions.specs.Counts.{neighbours}
 use Rattle.positions.proofs.Counts.{neighbours-le}
 use Rattle.normal.specs.Normal.{entry}
+use Rattle.normal.proofs.Bounds.{entry-bound}
 use Rattle.solve.specs.Elimination.{value}
 use Rattle.solve.specs.declared.Solved.{Solved}
 use Rattle.fit.specs.Steps.{zeros, quantised, coefficientsOf, energyF, lumaFit}
@@ -137,13 +140,13 @@ module _ (s : Shape) (y cb cr y-denoised cb-denoised cr-denoised : List ℕ) (la
   plane = lumaOf s y y-denoised .plane
 
   visible : Seen (viewOf s Y) y y-denoised
-  visible = fit-seen s y cb cr y-denoised cb-denoised cr-denoised lag passed .luma
+  visible = fit-seen s y cb cr y-denoised cb-denoised cr-denoised lag passed .0 .luma
 
   limited : Limited planeLimit sampleLimit (own plane)
-  limited = seen-limited visible
+  limited = seen-samples visible
 
   bounded : 2 * lag < plane .width → lag < plane .height → natAbs (entry (noiseOf plane) (plane .width) (plane .height) lag (neighbours lag) (neighbours lag)) ≤ 2 ^ 53
-  bounded a b = ?
+  bounded a b = entry-bound visible (record { few = facts .lag-known; columns = le-of-lt a; rows = le-of-lt b }) (neighbours lag) (neighbours lag) (omega arith) (omega arith)
 
   is-fit : fitAnswer s y cb cr y-denoised cb-denoised cr-denoised lag ≡ fitOf (lumaOf s y y-denoised) (planeOf s cb cb-denoised) (planeOf s cr cr-denoised) lag
   is-fit = sym (accepted-is s y cb cr y-denoised cb-denoised cr-denoised lag _ refl passed)

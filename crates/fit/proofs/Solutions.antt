@@ -1,15 +1,18 @@
 -- The coefficients from the solver's answer; and equal sums make equal equations. Assumes nothing.
-use mathlib.Core.Path.{_≡_, refl, ap, _∙_}
+use mathlib.Core.Path.{_≡_, refl}
 use mathlib.Core.Bool.{Bool, true, false, cond}
 use mathlib.Core.List.{List}
 use Prim.Native.Nat.{ℕ, _≤_, _<_}
 use native.Mathlib.Nat.{le-of-lt}
-use lib.Dec.{leb}
+use native.Mathlib.Omega.{arith}
+use lib.Dec.{leb, ltb}
 use lib.IntN.{ℤ}
-use lib.Ieee.{Float}
+use lib.Ieee.{Float, binary64, div, ofInt}
 use borrow.Author.Tests.{leb-true, leb-false}
+use Rattle.laws.specs.Constants.{four}
 use Rattle.laws.specs.Scaled.{plusZero}
 use Rattle.laws.proofs.Table.{tabulate-same}
+use Rattle.positions.specs.Counts.{neighbours, factors}
 use Rattle.solve.specs.Elimination.{Row, Matrix}
 use Rattle.solve.specs.Answer.{solvedOf}
 use Rattle.solve.specs.declared.Solved.{Solved}
@@ -59,3 +62,21 @@ module _ (sum sum′ : ℕ → Float) (p : ℕ) (same : (i : ℕ) → i < p → 
   pub right-same : rightOf sum p ≡ rightOf sum′ p
   unfolding rightOf
   right-same = tabulate-same 25 (valueOf sum p) (valueOf sum′ p) (λ i l. value-same i)
+
+pub exact-same : (entries entries′ : ℕ → ℕ → ℤ) (taps : ℕ → ℤ) (squares : Float) (lag p : ℕ) → p ≤ factors lag
+    → ((i j : ℕ) → i < factors lag → j < factors lag → entries i j ≡ entries′ i j) → exactFit entries taps squares lag p ≡ exactFit entries′ taps squares lag p
+unfolding exactFit cellSum rightSum
+exact-same entries entries′ taps squares lag p few same =
+    λ t. coefficientsOf (solvedOf (matrix-same (cellSum entries taps squares lag) (cellSum entries′ taps squares lag) p cells t) (right-same (rightSum entries taps lag) (rightSum entries′ taps lag) p values t) p)
+  where
+    cells : (i j : ℕ) → i ≤ j → j < p → cellSum entries taps squares lag i j ≡ cellSum entries′ taps squares lag i j
+    cells i j a b =
+        let k : i < factors lag = omega arith in
+        let l : j < factors lag = omega arith in
+        λ t. cond (ltb j (neighbours lag)) (ofInt binary64 (same i j k l t)) (cond (ltb i (neighbours lag)) (div binary64 (ofInt binary64 (taps i)) four) squares)
+
+    values : (i : ℕ) → i < p → rightSum entries taps lag i ≡ rightSum entries′ taps lag i
+    values i a =
+        let k : i < factors lag = omega arith in
+        let l : neighbours lag < factors lag = omega arith in
+        λ t. cond (ltb i (neighbours lag)) (ofInt binary64 (same i (neighbours lag) k l t)) (div binary64 (ofInt binary64 (taps (neighbours lag))) four)

@@ -11,8 +11,8 @@ use Rattle.frame.specs.Calls.{fitRefusal}
 use Rattle.frame.specs.Planes.{geometryOf}
 use Rattle.frame.specs.declared.Shape.{Shape}
 use Rattle.noise.specs.Noise.{Pair}
-use Rattle.noise.specs.Average.{Luma}
-use Rattle.noise.specs.Seen.{seen, lumaSeen}
+use Rattle.noise.specs.Average.{Luma, lumaSeen}
+use Rattle.noise.specs.Seen.{seen}
 use Rattle.positions.specs.Counts.{neighbours}
 use Rattle.fit.specs.Steps.{lumaFit, chromaFit}
 use Rattle.fit.specs.declared.Fit.{Fit}

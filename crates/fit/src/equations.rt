@@ -6,13 +6,14 @@ ghost use Rattle.positions.specs.Counts.{neighbours, factors};
 ghost use Rattle.normal.specs.Layout.{sumAt};
 ghost use Rattle.fit.specs.Steps.{cellOf, rowOf, matrixOf, valueOf, rightOf};
 ghost use Rattle.fit.specs.Sums.{Room, cellSum, rightSum};
+use crate::counts::neighbour_count;
 
 // Σ factor i × factor j, from a whole number, or from quarters with one average; `squares` with two.
 fn cell_sum(sums: &[i64], taps: &[i64], squares: f64, lag: usize, i: usize, j: usize) -> f64
     requires { ⌜ Room (now sums) (now taps) lag × (i ≤ neighbours lag) × (j ≤ neighbours lag) ⌝ }
     ensures { λ r. ⌜ r ≡ cellSum (sumAt (now (sums .entry)) lag) (at (now (taps .entry))) squares lag i j ⌝ }
 {
-    let n = 2 * lag * (lag + 1);
+    let n = neighbour_count(lag);
     if j < n {
         let whole = normal::neighbour_sum(sums, lag, i, j);
         return std::num::nearest_i64_to_f64(whole);
@@ -29,7 +30,7 @@ fn right_sum(sums: &[i64], taps: &[i64], lag: usize, i: usize) -> f64
     requires { ⌜ Room (now sums) (now taps) lag × (i ≤ neighbours lag) ⌝ }
     ensures { λ r. ⌜ r ≡ rightSum (sumAt (now (sums .entry)) lag) (at (now (taps .entry))) lag i ⌝ }
 {
-    let n = 2 * lag * (lag + 1);
+    let n = neighbour_count(lag);
     if i < n {
         let whole = normal::neighbour_sum(sums, lag, i, n);
         return std::num::nearest_i64_to_f64(whole);

@@ -1,4 +1,5 @@
 // The auto-regressive coefficients of a frame's noise, by least squares.
+mod counts; // of neighbours and of sums
 mod equations; // the normal equations in f64, from exact sums
 mod coefficients; // solved and quantised
 mod planes; // the fit of a plane
@@ -6,6 +7,7 @@ mod planes; // the fit of a plane
 ghost use mathlib.Core.Path.{_≡_};
 ghost use Prim.Native.Nat.{_≤_};
 ghost use Rattle.fit.specs.Answer.{allZero, firstOf, unfit, fitAnswer};
+use counts::neighbour_count;
 use frame::Shape;
 use planes::chroma_fit;
 use planes::luma_fit;
@@ -77,7 +79,7 @@ pub fn fit_ar_lag(
         return unfitted(refused);
     }
     let geometry = s.geometry();
-    let count = 2 * lag * (lag + 1);
+    let count = neighbour_count(lag);
     let luma = first(luma_fit(y, yden, geometry.luma, lag));
     if all_zero(luma, count) {
         return unfitted(0);

@@ -4,14 +4,16 @@ ghost use Prim.Native.Nat.{_≤_};
 ghost use lib.ListN.{length};
 ghost use Rattle.noise.specs.Lines.{at};
 ghost use Rattle.noise.specs.Noise.{noiseOf};
-ghost use Rattle.noise.specs.Seen.{seen, lumaSeen, Seen, SeenFrame};
+ghost use Rattle.noise.specs.Seen.{seen, Seen, SeenFrame};
+ghost use Rattle.noise.specs.Average.{lumaSeen};
 ghost use Rattle.positions.specs.Counts.{factors};
 ghost use Rattle.normal.specs.Normal.{entry};
-ghost use Rattle.normal.specs.Layout.{sumsSize};
 ghost use Rattle.fit.specs.Steps.{lumaFit, chromaFit};
 ghost use Rattle.fit.specs.Sums.{exactFit};
 ghost use Rattle.fit.specs.Rooms.{LumaRoom, ComponentRoom, ChromaRoom};
 use crate::coefficients::coefficients;
+use crate::counts::neighbour_count;
+use crate::counts::sums_size;
 use frame::Geometry;
 use frame::View;
 
@@ -29,15 +31,6 @@ fn blank_taps() -> [i64; 25] {
     [0; 25]
 }
 
-// The places for the sums of every two neighbours.
-fn sums_size(lag: usize) -> usize
-    requires { ⌜ lag ≤ 3 ⌝ }
-    ensures { λ r. ⌜ r ≡ sumsSize lag ⌝ }
-{
-    let side = 2 * lag + 1;
-    (lag + 1) * (lag + 1) * (side * side)
-}
-
 // A luma plane that holds a window: zeros where the energy is 0.
 fn luma_coefficients(
     src: &[u16],
@@ -51,7 +44,7 @@ fn luma_coefficients(
     ensures { λ r. ⌜ r ≡ lumaFit (seen view (now (src .entry)) (now (den .entry))) lag ⌝ }
 {
     normal::neighbour_sums(src, den, view, lag, sums);
-    let n = 2 * lag * (lag + 1);
+    let n = neighbour_count(lag);
     let energy = normal::neighbour_sum(sums, lag, n, n);
     if std::num::nearest_i64_to_f64(energy) <= 0.0 {
         return [0; 25];
@@ -75,7 +68,7 @@ pub fn luma_fit(src: &[u16], den: &[u16], view: View, lag: usize) -> [i32; 25]
     }
     let mut sums = blank_sums();
     let taps = blank_taps();
-    let q = 2 * lag * (lag + 1) + 1;
+    let q = neighbour_count(lag) + 1;
     let size = sums_size(lag);
     luma_coefficients(src, den, view, lag, &taps[..q], &mut sums[..size])
 }
@@ -94,7 +87,7 @@ fn component(
     ensures { λ r. ⌜ r ≡ exactFit (entry (noiseOf (seen view (now (src .entry)) (now (den .entry)))) (view .width) (view .height) lag) (at (now (taps .entry))) squares lag (factors lag) ⌝ }
 {
     normal::neighbour_sums(src, den, view, lag, sums);
-    coefficients(sums, taps, squares, lag, 2 * lag * (lag + 1) + 1)
+    coefficients(sums, taps, squares, lag, neighbour_count(lag) + 1)
 }
 
 // Both chroma planes, where they hold a window.
@@ -152,7 +145,7 @@ pub fn chroma_fit(
     let mut cbtaps = blank_taps();
     let mut crtaps = blank_taps();
     let mut sums = blank_sums();
-    let q = 2 * lag * (lag + 1) + 1;
+    let q = neighbour_count(lag) + 1;
     let size = sums_size(lag);
     chroma_coefficients(
         y,
