@@ -33,11 +33,7 @@ pub some : (sub n i : ℕ) → Bit sub → i < sampled sub n → 1 ≤ n
 some sub n i kept h = omega arith
 some sub n i halved h = omega arith
 
--- a chroma row begins at a luma row exactly where it is one of the rows
-pub begins : (sub n i : ℕ) → Bit sub → i < sampled sub n → i * 2 ^ sub < n
-begins sub n i kept h = omega arith
-begins sub n i halved h = omega arith
-
+-- a chroma row that begins at a luma row is one of the rows
 pub within : (sub n i : ℕ) → Bit sub → i * 2 ^ sub < n → i < sampled sub n
 within sub n i kept h = omega arith
 within sub n i halved h = omega arith

@@ -1,7 +1,7 @@
 -- Two lines of noise, from places of two planes: the sum of their products, and its size. Assumes nothing.
 use mathlib.Core.Path.{_≡_}
 use mathlib.Core.List.{List}
-use Prim.Native.Nat.{ℕ, _+_, _*_, _^_, _≤_}
+use Prim.Native.Nat.{ℕ, _+_, _*_, _≤_}
 use lib.IntN.{ℤ, natAbs, _*ℤ_}
 use lib.ListN.{length}
 use Rattle.laws.specs.Limits.{sampleLimit}

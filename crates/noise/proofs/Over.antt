@@ -3,7 +3,7 @@ use mathlib.Core.Path.{_≡_, refl, sym, _∙_}
 use mathlib.Core.Bool.{Bool, true, false, cond}
 use mathlib.Core.List.{List}
 use Prim.Native.Nat.{ℕ, zero, suc, _+_, _*_, _^_, _≤_, _<_}
-use native.Mathlib.Nat.{le-of-eq, lt-of-le-of-lt, lt-of-lt-of-le, not-suc-le-zero, div-one, add-zero}
+use native.Mathlib.Nat.{le-of-eq, lt-of-lt-of-le, not-suc-le-zero, div-one, add-zero}
 use native.Mathlib.Omega.{arith}
 use borrow.Author.Tests.{lt-leb, ne-eqb}
 use lib.Dec.{leb, eqb, lit≤}
@@ -16,14 +16,14 @@ use Rattle.frame.specs.declared.Shape.{Shape}
 use Rattle.frame.specs.declared.view.View.{View}
 use Rattle.frame.specs.declared.view.Geometry.{Geometry}
 use Rattle.noise.specs.Lines.{noiseLimit}
-use Rattle.noise.specs.Seen.{seen, Seen, Over, SeenFrame}
+use Rattle.noise.specs.Seen.{seen, Seen, Over}
 use Rattle.noise.specs.Average.{lumaSeen, quarters}
 use Rattle.noise.specs.Quarters.{AverageRow}
 use Rattle.noise.specs.Products.{average, Exists}
 use Rattle.noise.specs.Claim.{Samples, Limited}
 use Rattle.noise.specs.Steps.{InFit, tap}
 use Rattle.noise.proofs.Halving.{bit, within}
-use Rattle.noise.proofs.Averages.{Rows, quarters-le}
+use Rattle.noise.proofs.Averages.{quarters-le}
 use Rattle.noise.proofs.Products.{plane-samples}
 use Rattle.noise.proofs.Seen.{seen-plane}
 

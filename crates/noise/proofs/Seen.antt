@@ -14,7 +14,7 @@ use Rattle.frame.specs.View.{placeAt, viewed, whole}
 use Rattle.frame.specs.declared.view.View.{View}
 use Rattle.frame.proofs.Viewed.{viewed-length, viewed-at, viewed-whole}
 use Rattle.noise.specs.Noise.{noise, place, pair, noiseOf}
-use Rattle.noise.specs.Lines.{Below, noiseLimit, Places, Plane}
+use Rattle.noise.specs.Lines.{noiseLimit, Places, Plane}
 use Rattle.noise.specs.Seen.{seen, noiseAt, Seen, sumOver, squared, SumsOf, CrossOf}
 use Rattle.noise.specs.declared.sums.PlaneSums.{PlaneSums}
 use Rattle.noise.specs.declared.rows.PairSums.{PairSums}

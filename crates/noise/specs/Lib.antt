@@ -8,4 +8,5 @@ pub mod Claim
 pub mod Steps
 -- how the work is divided: the contracts of the parts
 pub mod Lines
+pub mod Rows
 pub mod Quarters

@@ -1,5 +1,4 @@
 -- "the sums of noise products that the calls make are cases of it": these sums as the Rust adds them, from 0.0, in its order.
-use mathlib.Core.Path.{_≡_}
 use mathlib.Core.Bool.{cond}
 use Prim.Native.Nat.{ℕ, _+_, _*_, _<_}
 use lib.Dec.{ltb}

@@ -6,6 +6,7 @@ ghost use Rattle.laws.specs.Limits.{sideLimit, sampleLimit};
 ghost use Rattle.noise.specs.Noise.{noiseOf};
 ghost use Rattle.noise.specs.Lines.{rowNoise, Places};
 ghost use Rattle.noise.specs.Seen.{seen, noiseAt, Seen, RowCross, CrossOf};
+ghost use Rattle.noise.specs.Rows.{pairPlus, PairHeld};
 use crate::blocks::dot;
 use crate::line::blank_line;
 use crate::line::noise_line;
@@ -39,6 +40,17 @@ fn row_pair(
     PairSums { second, cross }
 }
 
+// a + b, sum by sum.
+fn pair_plus(a: PairSums, b: PairSums) -> PairSums
+    requires { ⌜ PairHeld (pairPlus a b) ⌝ }
+    ensures { λ s. ⌜ s ≡ pairPlus a b ⌝ }
+{
+    PairSums {
+        second: a.second + b.second,
+        cross: a.cross + b.cross,
+    }
+}
+
 // The sums over the rows of a view. The lines p and q have a place for each column.
 fn view_pair(
     src0: &[u16],
@@ -52,15 +64,16 @@ fn view_pair(
     requires { ⌜ Seen view (now src0) (now den0) × Seen view (now src1) (now den1) × (length (now p) ≡ view .width) × (length (now q) ≡ view .width) ⌝ }
     ensures { λ s. ⌜ CrossOf (noiseAt (now (src0 .entry)) (now (den0 .entry)) view) (noiseAt (now (src1 .entry)) (now (den1 .entry)) view) (view .height) (view .width) s ⌝ }
 {
-    let mut second = 0i64;
-    let mut cross = 0i64;
+    let mut total = PairSums {
+        second: 0,
+        cross: 0,
+    };
     for r in 0..view.height {
         let start = view.start + r * view.step;
         let row = row_pair(src0, den0, src1, den1, start, view.stride, p, q);
-        second = second + row.second;
-        cross = cross + row.cross;
+        total = pair_plus(total, row);
     }
-    PairSums { second, cross }
+    total
 }
 
 // The sums over what a view shows of two planes.

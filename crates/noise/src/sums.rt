@@ -8,6 +8,7 @@ ghost use Rattle.laws.specs.Limits.{sideLimit, sampleLimit};
 ghost use Rattle.noise.specs.Noise.{noiseOf};
 ghost use Rattle.noise.specs.Lines.{at, product, rowNoise, Places, NoiseLine};
 ghost use Rattle.noise.specs.Seen.{seen, noiseAt, Seen, squared, RowSums, SumsOf};
+ghost use Rattle.noise.specs.Rows.{planePlus, PlaneHeld};
 use crate::blocks::dot;
 use crate::line::blank_line;
 use crate::line::noise_line;
@@ -69,6 +70,18 @@ fn row_sums(
     }
 }
 
+// a + b, sum by sum.
+fn plane_plus(a: PlaneSums, b: PlaneSums) -> PlaneSums
+    requires { ⌜ PlaneHeld (planePlus a b) ⌝ }
+    ensures { λ s. ⌜ s ≡ planePlus a b ⌝ }
+{
+    PlaneSums {
+        squares: a.squares + b.squares,
+        energy: a.energy + b.energy,
+        lagged: a.lagged + b.lagged,
+    }
+}
+
 // The sums over the rows of a view. The lines p and q have a place for each column.
 fn view_sums(
     src: &[u16],
@@ -82,21 +95,17 @@ fn view_sums(
     requires { ⌜ Seen view (now src) (now den) × (length (now p) ≡ view .width) × (length (now q) ≡ view .width) × (lag ≤ view .width) × (shift < 16) ⌝ }
     ensures { λ s. ⌜ SumsOf (noiseAt (now (src .entry)) (now (den .entry)) view) (view .height) (view .width) lag shift s ⌝ }
 {
-    let mut squares = 0i64;
-    let mut energy = 0i64;
-    let mut lagged = 0i64;
+    let mut total = PlaneSums {
+        squares: 0,
+        energy: 0,
+        lagged: 0,
+    };
     for r in 0..view.height {
         let start = view.start + r * view.step;
         let row = row_sums(src, den, start, view.stride, lag, shift, p, q);
-        squares = squares + row.squares;
-        energy = energy + row.energy;
-        lagged = lagged + row.lagged;
+        total = plane_plus(total, row);
     }
-    PlaneSums {
-        squares,
-        energy,
-        lagged,
-    }
+    total
 }
 
 // The sums over what a view shows of a plane.

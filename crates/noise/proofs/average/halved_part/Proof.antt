@@ -1,5 +1,5 @@
 -- `noise::average::halved_part` meets its contract: the columns before `from`, and those passed, are filled with four times their average. Assumes nothing.
-use mathlib.Core.Path.{_≡_, refl}
+use mathlib.Core.Path.{refl}
 use Prim.Native.Nat.{_+_, _-_, _*_, _≤_}
 use native.Mathlib.Omega.{arith}
 use borrow.Author.Needs.{needs}

@@ -6,7 +6,7 @@ use borrow.Author.Needs.{needs}
 use lib.IntN.{_+ℤ_, _*ℤ_}
 use mir.Syntax.{w32}
 use mir.Val.{ofZ, toZ}
-use Rattle.laws.specs.Sums.{total, sumTo, span}
+use Rattle.laws.specs.Sums.{total, span}
 use Rattle.laws.proofs.Is.{Is, again, fits}
 use Rattle.noise.specs.Lines.{at, product}
 use Rattle.noise.proofs.BlockSums.{wide32, wide, product-is, block-turn}

@@ -1,40 +1,24 @@
--- `noise::rows::view_pair` meets its contract: the accumulators hold the sums of the rows passed. Assumes nothing.
-use mathlib.Core.Path.{_≡_, refl, ap, _∙_}
-use mathlib.Core.List.{List}
-use Prim.Native.Nat.{ℕ, _+_, _-_, _*_, _≤_, _<_}
-use native.Mathlib.Nat.{lt-of-le-of-lt, mul-le-mul, mul-le-mul-right}
+-- `noise::rows::view_pair` meets its contract: the total is that of the rows passed. Assumes nothing.
+use mathlib.Core.Path.{_≡_, _∙_}
+use Prim.Native.Nat.{_+_, _-_, _≤_, _<_}
 use native.Mathlib.Omega.{arith}
 use borrow.Author.Needs.{needs}
-use lib.Dec.{lit<}
-use lib.IntN.{ℤ, _+ℤ_, _*ℤ_}
 use lib.ListN.{length}
-use mir.Syntax.{w64}
-use mir.Val.{ofZ, toZ}
-use Rattle.laws.specs.Sums.{total, sumTo}
-use Rattle.laws.proofs.Is.{Is, again, fits}
-use Rattle.noise.specs.Seen.{noiseAt}
-use Rattle.frame.specs.declared.view.View.{View}
-use Rattle.noise.proofs.LineSums.{rows-turn}
-use Rattle.noise.proofs.NoiseSums.{noise-sum-le}
+use Rattle.noise.specs.Seen.{noiseAt, CrossOf}
+use Rattle.noise.specs.Rows.{pairPlus}
+use Rattle.noise.proofs.RowSums.{cross-none, cross-more, cross-held}
 use Rattle.noise.proofs.rows.view_pair.Statement.{statement}
 use Rattle.noise.proofs.rows.view_pair.Tie as tie
 
--- the sum of a row
-abbrev row : List ℕ → List ℕ → List ℕ → List ℕ → View → ℕ → ℕ → ℤ
-row src0 den0 src1 den1 view n r = sumTo (λ c. noiseAt src0 den0 view r c *ℤ noiseAt src1 den1 view r c) n
-
 abbrev Inv-loop : tie.InvT-loop
-Inv-loop src0 den0 src1 den1 view p₀ q₀ second₀ cross₀ r₀ r-end p q second cross r =
-    (r ≤ view .height) × (length p ≡ view .width) × (length q ≡ view .width)
-    × (toZ w64 second ≡ sumTo (row src1 den1 src1 den1 view (view .width)) r)
-    × (toZ w64 cross ≡ sumTo (row src0 den0 src1 den1 view (view .width)) r)
+Inv-loop src0 den0 src1 den1 view p₀ q₀ total₀ r₀ r-end p q total r =
+    (r ≤ view .height) × (length p ≡ view .width) × (length q ≡ view .width) × CrossOf (noiseAt src0 den0 view) (noiseAt src1 den1 view) r (view .width) total
 
 abbrev μ-loop : tie.MeasureT-loop
-μ-loop src0 den0 src1 den1 view p₀ q₀ second₀ cross₀ r₀ r-end p q second cross r = view .height - r
+μ-loop src0 den0 src1 den1 view p₀ q₀ total₀ r₀ r-end p q total r = view .height - r
 
 loop-holds : tie.Need-loop-holds Inv-loop μ-loop
-unfolding total
-loop-holds c = (omega arith, search needs, search needs, refl, refl)
+loop-holds c = (omega arith, search needs, search needs, cross-none)
 
 mul-start : tie.Need-mul-start Inv-loop μ-loop
 mul-start c = omega (arith, c .before .before .before .before .before .before .before .pre .0 .rows (c .before .before .loop .r) (search needs) .begins)
@@ -50,54 +34,25 @@ row-pair-requires c κs =
     rw (H .inv .1) (S .pre .0 .rows (H .r) l, S .pre .1 .rows (H .r) l, S .pre .0 .narrow, H .inv .2)
 
 -- the sums with a row more
-squared : (c : tie.After-struct-told Inv-loop μ-loop) → let A = c .before .before .before .before .before .before .before .before .before .before .before .before .before .before .before .args in
-    Is w64 (toZ w64 (c .before .before .before .before .before .before .before .before .before .before .loop .second) +ℤ toZ w64 (ofZ w64 (c .before .before .before .before .row-pair .result .second)))
-    (sumTo (row (A .src1 .now) (A .den1 .now) (A .src1 .now) (A .den1 .now) (A .view) (A .view .width)) (c .before .before .before .before .before .before .before .before .before .before .loop .r + 1))
-squared c =
-    let S = c .before .before .before .before .before .before .before .before .before .before .before .before .before .before .before in
-    let A = S .args in
-    let H = c .before .before .before .before .before .before .before .before .before .before .loop in
-    let n = A .view .width in
-    let G = row (A .src1 .now) (A .den1 .now) (A .src1 .now) (A .den1 .now) (A .view) in
-    rows-turn (G n) (n * (4095 * 4095)) (A .view .height) (lt-of-le-of-lt (mul-le-mul (S .pre .0 .low) (mul-le-mul-right (4095 * 4095) (S .pre .0 .narrow))) (lit< tt))
-    (λ r l. noise-sum-le (S .pre .1 .rows r l) (S .pre .1 .rows r l))
-    (H .r) (c .before .before .before .before .row-pair .result .second) (c .before .before .before .before .before .before .before .before .before .loop-test .taken) (H .inv .3)
-    (c .before .before .before .before .row-pair .ensures .second ∙ ap (λ (m : ℕ). G m (H .r)) (H .inv .1))
+grown : (c : tie.After-row-pair Inv-loop μ-loop) → let A = c .before .before .before .before .before .before .before .before .before .before .before .args in
+    let H = c .before .before .before .before .before .before .loop in
+    CrossOf (noiseAt (A .src0 .now) (A .den0 .now) (A .view)) (noiseAt (A .src1 .now) (A .den1 .now) (A .view)) (H .r + 1) (A .view .width) (pairPlus (H .total) (c .row-pair .result))
+grown c = let H = c .before .before .before .before .before .before .loop in cross-more (H .inv .3) (rw (H .inv .1) at (c .row-pair .ensures))
 
-add-second : tie.Need-add-second Inv-loop μ-loop
-add-second c = fits (squared c)
-
-crossed : (c : tie.After-struct-told2 Inv-loop μ-loop) → let A = c .before .before .before .before .before .before .before .before .before .before .before .before .before .before .before .before .before .args in
-    Is w64 (toZ w64 (c .before .before .before .before .before .before .before .before .before .before .before .before .loop .cross) +ℤ toZ w64 (ofZ w64 (c .before .before .before .before .before .before .row-pair .result .cross)))
-    (sumTo (row (A .src0 .now) (A .den0 .now) (A .src1 .now) (A .den1 .now) (A .view) (A .view .width)) (c .before .before .before .before .before .before .before .before .before .before .before .before .loop .r + 1))
-crossed c =
-    let S = c .before .before .before .before .before .before .before .before .before .before .before .before .before .before .before .before .before in
-    let A = S .args in
-    let H = c .before .before .before .before .before .before .before .before .before .before .before .before .loop in
-    let n = A .view .width in
-    let G = row (A .src0 .now) (A .den0 .now) (A .src1 .now) (A .den1 .now) (A .view) in
-    rows-turn (G n) (n * (4095 * 4095)) (A .view .height) (lt-of-le-of-lt (mul-le-mul (S .pre .0 .low) (mul-le-mul-right (4095 * 4095) (S .pre .0 .narrow))) (lit< tt))
-    (λ r l. noise-sum-le (S .pre .0 .rows r l) (S .pre .1 .rows r l))
-    (H .r) (c .before .before .before .before .before .before .row-pair .result .cross) (c .before .before .before .before .before .before .before .before .before .before .before .loop-test .taken) (H .inv .4)
-    (c .before .before .before .before .before .before .row-pair .ensures .cross ∙ ap (λ (m : ℕ). G m (H .r)) (H .inv .1))
-
-add-cross : tie.Need-add-cross Inv-loop μ-loop
-add-cross c = fits (crossed c)
+pair-plus-requires : tie.Need-pair-plus-requires Inv-loop μ-loop
+pair-plus-requires c κs = cross-held (c .before .before .before .before .before .before .before .before .before .before .before .before .before .pre .0) (c .before .before .before .before .before .before .before .before .before .before .before .before .before .pre .1) (omega arith) (grown (c .before .before))
 
 add-r : tie.Need-add-r Inv-loop μ-loop
-add-r c = record { fits = omega (arith, c .before .before .before .before .before .before .before .before .before .before .before .before .before .before .before .before .before .pre .0 .low) }
+add-r c = record { fits = omega (arith, c .before .before .before .before .before .before .before .before .before .before .before .before .before .before .pre .0 .low) }
 
 loop-again : tie.Need-loop-again Inv-loop μ-loop
 loop-again c =
-    let H = c .before .before .before .before .before .before .before .before .before .before .before .before .loop in
-    let kept = c .before .before .before .before .before .before .row-pair .kept .1 .1 .1 .1 .1 .1 in
-    (omega arith, kept .0 ∙ H .inv .1, kept .1 .0 ∙ H .inv .2, again (squared (c .before .before)) .eq, again (crossed c) .eq)
+    let H = c .before .before .before .before .before .before .before .before .before .loop in
+    let kept = c .before .before .before .row-pair .kept .1 .1 .1 .1 .1 .1 in
+    (omega arith, kept .0 ∙ H .inv .1, kept .1 .0 ∙ H .inv .2, rw (c .pair-plus .ensures) (grown (c .before .before .before)))
 
 returns : tie.Need-returns Inv-loop μ-loop
-returns c =
-    let H = c .before .loop in
-    let e : H .r ≡ c .before .before .before .before .before .before .args .view .height = omega arith in
-    record { second = rw e at (H .inv .3); cross = rw e at (H .inv .4) }
+returns c = let e : c .before .loop .r ≡ c .before .before .before .before .before .before .args .view .height = omega arith in rw e at (c .before .loop .inv .3)
 
 pub view-pair-spec : {M : Type 1} → statement M
 view-pair-spec =
@@ -109,8 +64,7 @@ view-pair-spec =
     mul-start
     add-start
     row-pair-requires
-    add-second
-    add-cross
+    pair-plus-requires
     add-r
     (λ c. search needs)
     loop-again
