@@ -15,10 +15,11 @@ use Rattle.laws.proofs.Whole.{abs-add}
 use Rattle.laws.proofs.Order.{lt-or-ge}
 use Rattle.laws.specs.Limits.{sideLimit}
 use Rattle.frame.specs.declared.view.View.{View}
+use Rattle.noise.specs.Lines.{noiseLimit}
 use Rattle.noise.specs.Seen.{noiseAt}
 use Rattle.normal.specs.Normal.{Picture}
 use Rattle.normal.specs.Layout.{blockAt}
-use Rattle.normal.specs.Starts.{startSum, noiseMost, byBlocks}
+use Rattle.normal.specs.Starts.{startSum, byBlocks}
 use Rattle.normal.specs.Blocks.{Zeros, ifPassed, Room, Added}
 use Rattle.normal.specs.Rows.{Plot, RowTables, StartSums, pairSum}
 use Rattle.normal.proofs.Places.{quotient, remainder}
@@ -125,7 +126,7 @@ module _ {v : View} {source denoised : List ℕ} {n side : ℕ} (P : Plot v sour
   noises = noiseAt source denoised v
 
   abbrev most : ℕ
-  most = sideLimit * (noiseMost * noiseMost)
+  most = sideLimit * (noiseLimit * noiseLimit)
 
   pair-le : (u l c : ℕ) → u < v .height → l < v .height → c < side * side → natAbs (byBlocks side (startSum (noises u) (noises l) n) c) ≤ most
   pair-le u l c hu hl q = rows-bound P u l hu hl (c / side) (c % side) (quotient side c q) (remainder side c q)

@@ -8,6 +8,10 @@ pub mod RowLines
 pub mod Filling
 pub mod Held
 pub mod Ordered
+pub mod AverageRows
+pub mod TapRows
 pub mod Windows
 pub mod Entries
+pub mod TapSums
 pub mod Sizes
+pub mod Bounds

@@ -14,8 +14,8 @@ use Rattle.laws.specs.Sums.{sumTo}
 use Rattle.laws.proofs.Sums.{sum-ext, sum-bound, slide}
 use Rattle.laws.proofs.Whole.{abs-sub, abs-mul-le}
 use Rattle.laws.proofs.Is.{Is, self, again, wider, times, known}
-use Rattle.noise.specs.Lines.{at, product, Lines}
-use Rattle.normal.specs.Starts.{startSum, noiseMost, averageMost, Overlap, Noisy}
+use Rattle.noise.specs.Lines.{at, product, noiseLimit, Lines}
+use Rattle.normal.specs.Starts.{startSum, averageLimit, Overlap, Noisy}
 use Rattle.normal.proofs.Stored.{part, part-length, part-at}
 
 module _ (f g : ℕ → ℤ) (n a b : ℕ) where
@@ -102,9 +102,9 @@ module _ {up lo : List ℤ} {n : ℕ} (a b : ℕ) (O : Noisy up lo n (a + 1) (b 
   earlier : Noisy up lo n a b
   earlier = record { up-long = omega (arith, O .up-long); lo-long = omega (arith, O .lo-long); few = O .few; up-small = O .up-small; lo-small = O .lo-small }
 
-  first-le : natAbs (at up a *ℤ at lo b) ≤ noiseMost * averageMost
+  first-le : natAbs (at up a *ℤ at lo b) ≤ noiseLimit * averageLimit
   first-le =
-      abs-mul-le (at up a) (at lo b) noiseMost averageMost (O .up-small a (omega (arith, O .up-long))) (O .lo-small b (omega (arith, O .lo-long)))
+      abs-mul-le (at up a) (at lo b) noiseLimit averageLimit (O .up-small a (omega (arith, O .up-long))) (O .lo-small b (omega (arith, O .lo-long)))
 
   pub less-is : Is w64 (m -ℤ x) (startSum (at up) (at lo) n a b -ℤ at up a *ℤ at lo b)
   less-is =

@@ -9,12 +9,12 @@ use lib.IntN.{ℤ, natAbs}
 use Rattle.laws.specs.Limits.{sideLimit}
 use Rattle.laws.specs.Table.{tabulate}
 use Rattle.frame.specs.declared.view.View.{View}
-use Rattle.noise.specs.Lines.{at, AtMost}
+use Rattle.noise.specs.Lines.{at, AtMost, noiseLimit}
 use Rattle.noise.specs.Seen.{noiseAt, Seen}
 use Rattle.noise.proofs.Lines.{noise-le}
 use Rattle.noise.proofs.LineSums.{entry, size}
 use Rattle.normal.specs.Normal.{Picture}
-use Rattle.normal.specs.Starts.{startSum, noiseMost, byRows, Strip}
+use Rattle.normal.specs.Starts.{startSum, byRows, Strip}
 use Rattle.normal.specs.Rows.{Plot}
 use Rattle.normal.proofs.Overlaps.{start-ext, start-bound}
 use Rattle.normal.proofs.Places.{rows-ext}
@@ -24,12 +24,12 @@ pub at-most : {p : List ℤ} (n m : ℕ) (f : ℕ → ℤ) → p ≡ tabulate n 
 at-most n m f e h i l = let k = lt-of-lt-of-le l (le-of-eq (size n f e)) in le-trans (le-of-eq (ap natAbs (entry n f e i k))) (h i k)
 
 module _ {v : View} {source denoised : List ℕ} (S : Seen v source denoised) where
-  pub noise-small : (r c : ℕ) → r < v .height → c < v .width → natAbs (noiseAt source denoised v r c) ≤ noiseMost
+  pub noise-small : (r c : ℕ) → r < v .height → c < v .width → natAbs (noiseAt source denoised v r c) ≤ noiseLimit
   noise-small r c l m = noise-le (S .rows r l) c m
 
   -- a line that holds row r
-  pub line-small : {p : List ℤ} (r : ℕ) → r < v .height → p ≡ tabulate (v .width) (noiseAt source denoised v r) → AtMost noiseMost p
-  line-small r l e = at-most (v .width) noiseMost (noiseAt source denoised v r) e (λ c. noise-small r c l)
+  pub line-small : {p : List ℤ} (r : ℕ) → r < v .height → p ≡ tabulate (v .width) (noiseAt source denoised v r) → AtMost noiseLimit p
+  line-small r l e = at-most (v .width) noiseLimit (noiseAt source denoised v r) e (λ c. noise-small r c l)
 
 module _ {v : View} {source denoised : List ℕ} {n side : ℕ} (P : Plot v source denoised n side) where
   abbrev f : Picture
@@ -49,10 +49,10 @@ module _ {v : View} {source denoised : List ℕ} {n side : ℕ} (P : Plot v sour
 
   -- ---- rows u and l
   module _ (u l : ℕ) (hu : u < v .height) (hl : l < v .height) where
-    pub rows-bound : (a b : ℕ) → a < side → b < side → natAbs (startSum (f u) (f l) n a b) ≤ sideLimit * (noiseMost * noiseMost)
+    pub rows-bound : (a b : ℕ) → a < side → b < side → natAbs (startSum (f u) (f l) n a b) ≤ sideLimit * (noiseLimit * noiseLimit)
     rows-bound a b ha hb =
-        le-trans (start-bound (f u) (f l) n a b noiseMost noiseMost (λ x k. noise-small (P .seen) u (a + x) hu (within a x ha k)) (λ x k. noise-small (P .seen) l (b + x) hl (within b x hb k)))
-        (mul-le-mul-right (noiseMost * noiseMost) few)
+        le-trans (start-bound (f u) (f l) n a b noiseLimit noiseLimit (λ x k. noise-small (P .seen) u (a + x) hu (within a x ha k)) (λ x k. noise-small (P .seen) l (b + x) hl (within b x hb k)))
+        (mul-le-mul-right (noiseLimit * noiseLimit) few)
 
     module _ {up lo : List ℤ} (eu : up ≡ tabulate (v .width) (f u)) (el : lo ≡ tabulate (v .width) (f l)) where
       pub rows-strip : Strip up lo n side

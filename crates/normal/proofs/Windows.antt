@@ -5,13 +5,14 @@ use native.Mathlib.Nat.{lt-of-lt-of-le, div-lt-iff-lt-mul, mod-lt}
 use native.Mathlib.Omega.{arith}
 use lib.Arith.{digits-div, digits-mod}
 use lib.IntN.{ℤ, natAbs, _*ℤ_, *ℤ-comm}
-use Rattle.laws.specs.Sums.{span}
+use Rattle.laws.specs.Sums.{sumTo, span}
 use Rattle.laws.proofs.Sums.{sum-ext, sum-bound}
 use Rattle.laws.proofs.Whole.{abs-mul-le}
 use Rattle.positions.specs.Counts.{side, neighbours, factors}
 use Rattle.positions.proofs.Counts.{factors-le, factors-rows}
 use Rattle.normal.specs.Normal.{Picture, neighbour, windowSum, entry}
 use Rattle.normal.specs.Calls.{Window}
+use Rattle.normal.specs.Starts.{startSum}
 
 -- a place of the window
 pub record InWindow (w h lag y x : ℕ) : Type 0 where
@@ -41,6 +42,12 @@ module _ (w h lag : ℕ) where
     pub window-rows : windowSum w h lag f g ≡ span (λ y. span (λ x. f y x *ℤ g y x) lag (w - lag - lag)) lag (h - lag)
     unfolding windowSum
     window-rows = let e : w - 2 * lag ≡ w - lag - lag = omega arith in ap (λ (n : ℕ). span (λ y. span (λ x. f y x *ℤ g y x) lag n) lag (h - lag)) e
+
+  -- as sums by start, row after row of the window: f and g from columns a and b on
+  pub window-starts : (f g f′ g′ : Picture) (a b : ℕ) → ((y x : ℕ) → f′ y (a + x) ≡ f (lag + y) (lag + x)) → ((y x : ℕ) → g′ y (b + x) ≡ g (lag + y) (lag + x))
+      → sumTo (λ y. startSum (f′ y) (g′ y) (w - 2 * lag) a b) (h - lag) ≡ windowSum w h lag f g
+  unfolding startSum windowSum
+  window-starts f g f′ g′ a b p q = sum-ext _ _ (h - lag) (λ y _. sum-ext _ _ (w - 2 * lag) (λ x _ t. p y x t *ℤ q y x t))
 
   -- pictures that are the same in the window
   pub window-ext : (f f′ g g′ : Picture) → ((y x : ℕ) → InWindow w h lag y x → f y x ≡ f′ y x) → ((y x : ℕ) → InWindow w h lag y x → g y x ≡ g′ y x)

@@ -6,3 +6,4 @@ pub mod Calls
 pub mod Starts
 pub mod Blocks
 pub mod Rows
+pub mod Taps

@@ -2,25 +2,22 @@
 use mathlib.Core.Path.{_≡_}
 use mathlib.Core.Bool.{Bool, true}
 use mathlib.Core.List.{List}
-use Prim.Native.Nat.{ℕ, _+_, _-_, _*_, _/_, _%_, _≤_, _<_}
+use Prim.Native.Nat.{ℕ, _+_, _*_, _/_, _%_, _≤_, _<_}
 use lib.IntN.{ℤ, _*ℤ_}
 use lib.ListN.{length}
-use Rattle.laws.specs.Limits.{sideLimit, sampleLimit}
+use Rattle.laws.specs.Limits.{sideLimit}
 use Rattle.laws.specs.Sums.{total, sumTo}
 use Rattle.laws.specs.Table.{tabulate}
-use Rattle.noise.specs.Lines.{at, AtMost}
+use Rattle.noise.specs.Lines.{at, AtMost, noiseLimit}
 
 -- f a × g b + f (a + 1) × g (b + 1) + .., n products
 unfoldable pub startSum : (ℕ → ℤ) → (ℕ → ℤ) → ℕ → ℕ → ℕ → ℤ
 unfolding total
 startSum f g n a b = sumTo (λ x. f (a + x) *ℤ g (b + x)) n
 
--- the largest noise, and the largest luma average in quarters
-abbrev pub noiseMost : ℕ
-noiseMost = sampleLimit - 1
-
-abbrev pub averageMost : ℕ
-averageMost = 4 * noiseMost
+-- the largest luma average, in quarters
+abbrev pub averageLimit : ℕ
+averageLimit = 4 * noiseLimit
 
 -- two lines, whose numbers are at most c and d in size, with n places from a and from b on
 pub record Overlap (c d : ℕ) (up lo : List ℤ) (n a b : ℕ) : Type 0 where
@@ -32,7 +29,7 @@ pub record Overlap (c d : ℕ) (up lo : List ℤ) (n a b : ℕ) : Type 0 where
 
 -- a line of noise, and one of noise or of luma averages
 abbrev pub Noisy : List ℤ → List ℤ → ℕ → ℕ → ℕ → Type 0
-Noisy = Overlap noiseMost averageMost
+Noisy = Overlap noiseLimit averageLimit
 
 -- such lines, from every two of `side` places on
 abbrev pub Strip : List ℤ → List ℤ → ℕ → ℕ → Type 0

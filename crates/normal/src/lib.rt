@@ -4,6 +4,8 @@ mod neighbours;
 mod rows;
 mod starts;
 mod table;
+mod tap;
 
 pub use neighbours::neighbour_sum;
 pub use neighbours::neighbour_sums;
+pub use tap::tap_sums;

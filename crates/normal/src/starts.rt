@@ -4,7 +4,7 @@ ghost use Prim.Native.Nat.{_+_, _<_};
 ghost use lib.IntN.{_*ℤ_};
 ghost use lib.ListN.{length};
 ghost use Rattle.noise.specs.Lines.{at};
-ghost use Rattle.normal.specs.Starts.{startSum, averageMost, Overlap, Noisy};
+ghost use Rattle.normal.specs.Starts.{startSum, averageLimit, Overlap, Noisy};
 use noise::dot;
 use noise::dot_wide;
 
@@ -20,7 +20,7 @@ pub fn start_sum(up: &[i16], lo: &[i16], n: usize, a: usize, b: usize) -> i64
 
 // line[a]² + line[a + 1]² + .., n squares of luma averages.
 pub fn square_sum(line: &[i16], n: usize, a: usize) -> i64
-    requires { ⌜ Overlap averageMost averageMost (now line) (now line) n a a ⌝ }
+    requires { ⌜ Overlap averageLimit averageLimit (now line) (now line) n a a ⌝ }
     ensures { λ r. ⌜ r ≡ startSum (at (now (line .entry))) (at (now (line .entry))) n a a ⌝ }
 {
     let end = a + n;
