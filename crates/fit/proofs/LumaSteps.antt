@@ -3,8 +3,12 @@ use mathlib.Core.Path.{_≡_, _∙_}
 use mathlib.Core.Bool.{true, false}
 use mathlib.Core.List.{List}
 use Prim.Native.Nat.{ℕ, _*_, _≤_, _<_}
+use native.Mathlib.Omega.{arith}
 use lib.IntN.{ℤ}
-use lib.Ieee.{Float, le}
+use lib.Ieee.{Float, binary64, le, ofInt}
+use mir.Syntax.{w64}
+use mir.Val.{SFits, ofZ, toZ}
+use mir.ValLaws.{toZ-ofZ}
 use borrow.Author.Tests.{eq-eqb, ne-eqb, le-leb, lt-leb}
 use Rattle.laws.specs.Scaled.{plusZero}
 use Rattle.laws.specs.Limits.{planeLimit, sampleLimit}
@@ -13,9 +17,11 @@ use Rattle.noise.specs.Products.{own}
 use Rattle.noise.specs.Claim.{Limited}
 use Rattle.positions.specs.Counts.{neighbours, factors}
 use Rattle.normal.specs.Normal.{entry}
+use Rattle.normal.specs.Layout.{sumAt}
+use Rattle.normal.specs.Calls.{NeighbourSums}
 use Rattle.fit.specs.Steps.{zeros, energyF, lumaFit}
 use Rattle.fit.specs.Sums.{exactFit}
-use Rattle.fit.proofs.ExactFit.{luma-exact}
+use Rattle.fit.proofs.ExactFit.{energy-exact, luma-exact}
 
 module _ (plane : Pair) (lag : ℕ) where
   pub lag-zero : lag ≡ 0 → zeros ≡ lumaFit plane lag
@@ -45,3 +51,9 @@ module _ (plane : Pair) (lag : ℕ) where
         solved t S entries are taps squares r d =
             rw (ne-eqb lag 0 some, lt-leb (plane .width) (2 * lag) wide, lt-leb (plane .height) lag high, ← energy, t)
             (d ∙ luma-exact plane lag S entries are taps squares)
+
+  -- the energy, read from the sums
+  pub energy-read : Limited planeLimit sampleLimit (own plane) → (sums : List ℤ) → NeighbourSums plane lag sums → (n : ℕ) → n ≡ neighbours lag
+      → (z : ℤ) → SFits w64 z → z ≡ sumAt sums lag n n → (x : Float) → x ≡ ofInt binary64 (toZ w64 (ofZ w64 z)) → x ≡ energyF plane lag
+  energy-read S sums N n e z f r x d =
+      d ∙ energy-exact plane lag S (toZ-ofZ w64 z f ∙ r ∙ (λ t. sumAt sums lag (e t) (e t)) ∙ N .entries (neighbours lag) (neighbours lag) (omega arith) (omega arith))

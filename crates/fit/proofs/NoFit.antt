@@ -6,7 +6,7 @@ use mathlib.Core.Logic.{⊎-elim}
 use Prim.Native.Nat.{ℕ, zero, suc, _*_, _^_, _≤_, _<_}
 use native.Mathlib.Nat.{le-of-lt, le-trans, lt-of-lt-of-le, le-of-suc-le-suc, eq-or-lt-of-le, le-suc, le-refl}
 use native.Mathlib.Omega.{arith}
-use lib.Dec.{eqb, leb}
+use lib.Dec.{eqb, leb, lit≤}
 use lib.IntN.{ℤ, pos, natAbs}
 use lib.ListN.{getD, getD-replicate}
 use lib.Ieee.{le}
@@ -146,7 +146,7 @@ module _ (s : Shape) (y cb cr y-denoised cb-denoised cr-denoised : List ℕ) (la
   limited = seen-samples visible
 
   bounded : 2 * lag < plane .width → lag < plane .height → natAbs (entry (noiseOf plane) (plane .width) (plane .height) lag (neighbours lag) (neighbours lag)) ≤ 2 ^ 53
-  bounded a b = entry-bound visible (record { few = facts .lag-known; columns = le-of-lt a; rows = le-of-lt b }) (neighbours lag) (neighbours lag) (omega arith) (omega arith)
+  bounded a b = le-trans (entry-bound visible (record { few = facts .lag-known; columns = le-of-lt a; rows = le-of-lt b }) (neighbours lag) (neighbours lag) (omega arith) (omega arith)) (lit≤ tt)
 
   is-fit : fitAnswer s y cb cr y-denoised cb-denoised cr-denoised lag ≡ fitOf (lumaOf s y y-denoised) (planeOf s cb cb-denoised) (planeOf s cr cr-denoised) lag
   is-fit = sym (accepted-is s y cb cr y-denoised cb-denoised cr-denoised lag _ refl passed)

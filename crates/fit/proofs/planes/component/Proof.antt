@@ -17,7 +17,7 @@ returns : tie.Need-returns
 returns c =
     let a = c .before .before .before .before .before .before .before .before .args in
     c .coefficients .ensures
-    ∙ ap (λ (m : ℕ). exactFit _ (at (now (a .taps))) (a .squares) (a .lag) (m + 1)) (c .before .before .neighbour-count .ensures)
+    ∙ ap (λ (m : ℕ). exactFit _ (at (now (a .taps))) (a .squares) (a .lag) (m + 1)) (c .before .neighbour-count .ensures)
     ∙ exact-same _ _ (at (now (a .taps))) (a .squares) (a .lag) (factors (a .lag)) (le-refl _) (c .before .before .before .before .neighbour-sums .ensures .entries)
 
 pub component-spec : {M : Type 1} → statement M

@@ -3,16 +3,12 @@ use mathlib.Core.Path.{_≡_, ap, _∙_}
 use native.Mathlib.Omega.{arith}
 use Prim.Native.Nat.{ℕ}
 use denote.Ref.{now}
-use mir.Syntax.{w64}
-use mir.ValLaws.{toZ-ofZ}
 use borrow.Author.Needs.{needs}
 use Rattle.noise.specs.Seen.{seen}
 use Rattle.noise.proofs.Over.{seen-samples}
-use Rattle.normal.specs.Layout.{sumAt}
 use Rattle.fit.specs.Steps.{energyF}
 use Rattle.fit.specs.Sums.{exactFit}
-use Rattle.fit.proofs.ExactFit.{energy-exact}
-use Rattle.fit.proofs.LumaSteps.{flat, solved}
+use Rattle.fit.proofs.LumaSteps.{flat, solved, energy-read}
 use Rattle.fit.proofs.planes.luma_coefficients.Statement.{statement}
 use Rattle.fit.proofs.planes.luma_coefficients.Tie as tie
 
@@ -21,10 +17,7 @@ energy-is : (c : tie.After-nearest-i64-to-f64) → (let a = c .before .before .b
 energy-is c =
     let s = c .before .before .before .before .before in
     let r = c .before .neighbour-sum in
-    let n = c .before .before .before .neighbour-count .ensures in
-    c .nearest-i64-to-f64 .ensures
-    ∙ energy-exact _ _ (seen-samples (s .before .before .before .before .pre .plane .visible))
-    (toZ-ofZ w64 _ (record { sfits = r .ok }) ∙ r .ensures ∙ (λ t. sumAt _ _ (n t) (n t)) ∙ s .neighbour-sums .ensures .entries _ _ (omega arith) (omega arith))
+    energy-read _ _ (seen-samples (s .before .before .before .before .pre .plane .visible)) _ (s .neighbour-sums .ensures) _ (c .before .before .before .neighbour-count .ensures) _ (record { sfits = r .ok }) (r .ensures) _ (c .nearest-i64-to-f64 .ensures)
 
 returns : tie.Need-returns
 returns c =
