@@ -1,5 +1,5 @@
 -- The luma fit, from the tests that its code makes. Assumes nothing.
-use mathlib.Core.Path.{_≡_, _∙_}
+use mathlib.Core.Path.{_≡_, ap, _∙_}
 use mathlib.Core.Bool.{true, false}
 use mathlib.Core.List.{List}
 use Prim.Native.Nat.{ℕ, _*_, _≤_, _<_}
@@ -45,12 +45,12 @@ module _ (plane : Pair) (lag : ℕ) where
 
         pub solved : le x plusZero ≡ false → Limited planeLimit sampleLimit (own plane)
             → (entries : ℕ → ℕ → ℤ) → ((i j : ℕ) → i < factors lag → j < factors lag → entries i j ≡ entry (noiseOf plane) (plane .width) (plane .height) lag i j)
-            → (taps : ℕ → ℤ) (squares : Float) (r : List ℤ) → r ≡ exactFit entries taps squares lag (neighbours lag)
+            → (taps : ℕ → ℤ) (squares : Float) (p : ℕ) → p ≡ neighbours lag → (r : List ℤ) → r ≡ exactFit entries taps squares lag p
             → r ≡ lumaFit plane lag
         unfolding lumaFit
-        solved t S entries are taps squares r d =
+        solved t S entries are taps squares p e r d =
             rw (ne-eqb lag 0 some, lt-leb (plane .width) (2 * lag) wide, lt-leb (plane .height) lag high, ← energy, t)
-            (d ∙ luma-exact plane lag S entries are taps squares)
+            (d ∙ ap (exactFit entries taps squares lag) e ∙ luma-exact plane lag S entries are taps squares)
 
   -- the energy, read from the sums
   pub energy-read : Limited planeLimit sampleLimit (own plane) → (sums : List ℤ) → NeighbourSums plane lag sums → (n : ℕ) → n ≡ neighbours lag

@@ -1,9 +1,9 @@
 -- The coefficients from the solver's answer; and equal sums make equal equations. Assumes nothing.
-use mathlib.Core.Path.{_≡_, refl}
+use mathlib.Core.Path.{_≡_, refl, ap, _∙_}
 use mathlib.Core.Bool.{Bool, true, false, cond}
 use mathlib.Core.List.{List}
-use Prim.Native.Nat.{ℕ, _≤_, _<_}
-use native.Mathlib.Nat.{le-of-lt}
+use Prim.Native.Nat.{ℕ, _+_, _≤_, _<_}
+use native.Mathlib.Nat.{le-of-lt, le-refl}
 use native.Mathlib.Omega.{arith}
 use lib.Dec.{leb, ltb}
 use lib.IntN.{ℤ}
@@ -63,7 +63,7 @@ module _ (sum sum′ : ℕ → Float) (p : ℕ) (same : (i : ℕ) → i < p → 
   unfolding rightOf
   right-same = tabulate-same 25 (valueOf sum p) (valueOf sum′ p) (λ i l. value-same i)
 
-pub exact-same : (entries entries′ : ℕ → ℕ → ℤ) (taps : ℕ → ℤ) (squares : Float) (lag p : ℕ) → p ≤ factors lag
+exact-same : (entries entries′ : ℕ → ℕ → ℤ) (taps : ℕ → ℤ) (squares : Float) (lag p : ℕ) → p ≤ factors lag
     → ((i j : ℕ) → i < factors lag → j < factors lag → entries i j ≡ entries′ i j) → exactFit entries taps squares lag p ≡ exactFit entries′ taps squares lag p
 unfolding exactFit cellSum rightSum
 exact-same entries entries′ taps squares lag p few same =
@@ -80,3 +80,9 @@ exact-same entries entries′ taps squares lag p few same =
         let k : i < factors lag = omega arith in
         let l : neighbours lag < factors lag = omega arith in
         λ t. cond (ltb i (neighbours lag)) (ofInt binary64 (same i (neighbours lag) k l t)) (div binary64 (ofInt binary64 (taps (neighbours lag))) four)
+
+-- with the sums of every factor
+pub exact-all : (entries entries′ : ℕ → ℕ → ℤ) (taps : ℕ → ℤ) (squares : Float) (lag p : ℕ) → p + 1 ≡ factors lag
+    → ((i j : ℕ) → i < factors lag → j < factors lag → entries i j ≡ entries′ i j) → (r : List ℤ) → r ≡ exactFit entries taps squares lag (p + 1) → r ≡ exactFit entries′ taps squares lag (factors lag)
+exact-all entries entries′ taps squares lag p e same r d =
+    d ∙ ap (exactFit entries taps squares lag) e ∙ exact-same entries entries′ taps squares lag (factors lag) (le-refl (factors lag)) same

@@ -1,13 +1,11 @@
 -- `fit::planes::luma_coefficients` meets its contract: the plane's sums, its energy, then the coefficients. Assumes nothing.
-use mathlib.Core.Path.{_≡_, ap, _∙_}
+use mathlib.Core.Path.{_≡_}
 use native.Mathlib.Omega.{arith}
-use Prim.Native.Nat.{ℕ}
 use denote.Ref.{now}
 use borrow.Author.Needs.{needs}
 use Rattle.noise.specs.Seen.{seen}
 use Rattle.noise.proofs.Over.{seen-samples}
 use Rattle.fit.specs.Steps.{energyF}
-use Rattle.fit.specs.Sums.{exactFit}
 use Rattle.fit.proofs.LumaSteps.{flat, solved, energy-read}
 use Rattle.fit.proofs.planes.luma_coefficients.Statement.{statement}
 use Rattle.fit.proofs.planes.luma_coefficients.Tie as tie
@@ -29,8 +27,7 @@ returns-2 c =
     let s = c .before .before .before .before .before .before .before .before in
     let k = s .before .before .before .before .pre in
     solved _ _ (λ z. omega (arith, k .some)) (k .plane .wide) (k .plane .high) _ (energy-is (c .before .before .before)) (c .before .before .if1 .left)
-    (seen-samples (k .plane .visible)) _ (s .neighbour-sums .ensures .entries) _ _ _
-    (c .coefficients .ensures ∙ ap (λ (m : ℕ). exactFit _ _ _ _ m) (c .before .before .before .before .before .before .neighbour-count .ensures))
+    (seen-samples (k .plane .visible)) _ (s .neighbour-sums .ensures .entries) _ _ _ (c .before .before .before .before .before .before .neighbour-count .ensures) _ (c .coefficients .ensures)
 
 pub luma-coefficients-spec : {M : Type 1} → statement M
 luma-coefficients-spec =
