@@ -1,47 +1,36 @@
--- The equations from exact sums: where each sum stands, and what each test of the code makes of the definitions. Assumes nothing.
-use mathlib.Core.Path.{_≡_, sym}
-use mathlib.Core.List.{List}
-use Prim.Native.Nat.{ℕ, _+_, _*_, _≤_, _<_}
-use native.Mathlib.Nat.{le-of-eq, lt-of-lt-of-le}
-use native.Mathlib.Omega.{arith}
-use lib.Arith.{digits-lt}
+-- The equations from exact sums: what each test of the code makes of the definitions. Assumes nothing.
+use mathlib.Core.Path.{_≡_}
+use Prim.Native.Nat.{ℕ, _≤_, _<_}
 use lib.IntN.{ℤ}
-use lib.ListN.{length}
 use lib.Ieee.{Float, binary64, div, ofInt}
 use borrow.Author.Tests.{lt-ltb, le-ltb, le-leb, lt-leb}
+use Rattle.laws.specs.Constants.{four}
 use Rattle.laws.specs.Scaled.{plusZero}
-use Rattle.noise.specs.Lines.{at}
+use Rattle.positions.specs.Counts.{neighbours}
 use Rattle.fit.specs.Steps.{cellOf, valueOf}
-use Rattle.fit.specs.Sums.{four, Room, sumAt, rightAt}
+use Rattle.fit.specs.Sums.{cellSum, rightSum}
 
--- the place of factors i and j
-pub in-sums : {sums taps : List ℤ} {n : ℕ} → Room sums taps n → (i j : ℕ) → i ≤ n → j ≤ n → i * (n + 1) + j < length sums
-in-sums {sums} {taps} {n} R i j h k =
-    let a : i < n + 1 = omega arith in
-    let b : j < n + 1 = omega arith in
-    lt-of-lt-of-le (digits-lt a b) (le-of-eq (sym (R .squared)))
+module _ (entries : ℕ → ℕ → ℤ) (taps : ℕ → ℤ) (lag i : ℕ) (x : Float) where
+  module _ (squares : Float) (j : ℕ) where
+    pub sum-whole : j < neighbours lag → x ≡ ofInt binary64 (entries i j) → x ≡ cellSum entries taps squares lag i j
+    unfolding cellSum
+    sum-whole h e = rw (lt-ltb j (neighbours lag) h) e
 
-module _ (sums taps : List ℤ) (squares : Float) (n i j : ℕ) (x : Float) where
-  pub sum-whole : j < n → x ≡ ofInt binary64 (at sums (i * (n + 1) + j)) → x ≡ sumAt sums taps squares n i j
-  unfolding sumAt
-  sum-whole h e = rw (lt-ltb j n h) e
+    pub sum-quarters : neighbours lag ≤ j → i < neighbours lag → x ≡ div binary64 (ofInt binary64 (taps i)) four → x ≡ cellSum entries taps squares lag i j
+    unfolding cellSum
+    sum-quarters h k e = rw (le-ltb j (neighbours lag) h, lt-ltb i (neighbours lag) k) e
 
-  pub sum-quarters : n ≤ j → i < n → x ≡ div binary64 (ofInt binary64 (at taps i)) four → x ≡ sumAt sums taps squares n i j
-  unfolding sumAt
-  sum-quarters h k e = rw (le-ltb j n h, lt-ltb i n k) e
+    pub sum-squares : neighbours lag ≤ j → neighbours lag ≤ i → x ≡ squares → x ≡ cellSum entries taps squares lag i j
+    unfolding cellSum
+    sum-squares h k e = rw (le-ltb j (neighbours lag) h, le-ltb i (neighbours lag) k) e
 
-  pub sum-squares : n ≤ j → n ≤ i → x ≡ squares → x ≡ sumAt sums taps squares n i j
-  unfolding sumAt
-  sum-squares h k e = rw (le-ltb j n h, le-ltb i n k) e
+  pub right-whole : i < neighbours lag → x ≡ ofInt binary64 (entries i (neighbours lag)) → x ≡ rightSum entries taps lag i
+  unfolding rightSum
+  right-whole h e = rw (lt-ltb i (neighbours lag) h) e
 
-module _ (sums taps : List ℤ) (n i : ℕ) (x : Float) where
-  pub right-whole : i < n → x ≡ ofInt binary64 (at sums (i * (n + 1) + n)) → x ≡ rightAt sums taps n i
-  unfolding rightAt
-  right-whole h e = rw (lt-ltb i n h) e
-
-  pub right-quarters : n ≤ i → x ≡ div binary64 (ofInt binary64 (at taps n)) four → x ≡ rightAt sums taps n i
-  unfolding rightAt
-  right-quarters h e = rw (le-ltb i n h) e
+  pub right-quarters : neighbours lag ≤ i → x ≡ div binary64 (ofInt binary64 (taps (neighbours lag))) four → x ≡ rightSum entries taps lag i
+  unfolding rightSum
+  right-quarters h e = rw (le-ltb i (neighbours lag) h) e
 
 -- ---- the used part
 module _ (sum : ℕ → ℕ → Float) (p i j : ℕ) where

@@ -1,96 +1,111 @@
--- The chroma fits, from the tests that their code makes; what the sums with the luma tap ask. Assumes nothing.
+-- The chroma fits, from the tests that their code makes. Assumes nothing.
 use mathlib.Core.Path.{_≡_, refl, ap, _∙_}
 use mathlib.Core.Bool.{Bool, true, false, _||_}
 use mathlib.Core.List.{List}
-use Prim.Native.Nat.{ℕ, _*_, _≤_, _<_}
-use native.Mathlib.Nat.{le-trans, le-of-lt, lt-of-le-of-lt, mul-pos}
+use Prim.Native.Nat.{ℕ, _*_, _^_, _≤_, _<_}
+use native.Mathlib.Nat.{mul-pos, le-trans, le-of-lt, lt-of-le-of-lt}
 use native.Mathlib.Omega.{arith}
 use lib.Dec.{eqb, leb, lit≤, lit<}
-use lib.IntN.{ℤ}
+use lib.IntN.{ℤ, natAbs}
 use lib.ListN.{length}
 use lib.Ieee.{Float, binary64, div, ofInt, ofBits}
 use mir.Syntax.{w64}
 use mir.Val.{ofZ, toZ}
 use mir.ValLaws.{toZ-ofZ}
 use borrow.Author.Tests.{ne-eqb, le-leb, lt-leb}
+use Rattle.laws.specs.Constants.{sixteen}
+use Rattle.laws.specs.Limits.{planeLimit, sampleLimit}
 use Rattle.laws.specs.Scaled.{ofScaled}
 use Rattle.laws.specs.Table.{tabulate}
 use Rattle.laws.proofs.Is.{sfits}
-use Rattle.float.specs.Steps.{sixteen}
-use Rattle.noise.specs.Average.{Luma, quarters}
-use Rattle.noise.specs.Grids.{noiseAt}
-use Rattle.noise.specs.AverageSums.{Component}
-use Rattle.noise.specs.declared.rows.Grid.{Grid}
-use Rattle.noise.specs.Products.{pair}
-use Rattle.noise.proofs.Grids.{columnsFrom}
-use Rattle.noise.proofs.LineSums.{size}
-use Rattle.noise.proofs.ChromaSums as chroma
+use Rattle.laws.proofs.Table.{length-tabulate}
+use Rattle.frame.specs.declared.view.Geometry.{Geometry}
+use Rattle.frame.proofs.Viewed.{viewed-length}
+use Rattle.noise.specs.Noise.{Pair, noiseOf}
+use Rattle.noise.specs.Lines.{at}
+use Rattle.noise.specs.Average.{Luma, lumaSeen, quarters}
+use Rattle.noise.specs.Seen.{seen, Seen, Over}
+use Rattle.noise.specs.Products.{own, average}
+use Rattle.noise.specs.Claim.{Limited}
+use Rattle.noise.specs.Steps.{InFit}
 use Rattle.noise.proofs.Divided.{divided}
-use Rattle.positions.specs.Counts.{neighbours, factors}
-use Rattle.normal.specs.Normal.{tapEntry, tapSquare}
-use Rattle.normal.specs.Calls.{Window, Planes, TapSums}
-use Rattle.normal.proofs.Callers.{window, rows, luma-over}
-use Rattle.normal.proofs.Bounds.{square-bound}
+use Rattle.noise.proofs.LineSums.{entry as line-entry}
+use Rattle.noise.proofs.Over.{seen-samples, luma-limited, tap-over}
+use Rattle.positions.specs.Counts.{factors}
+use Rattle.normal.specs.Normal.{entry, tapEntry, tapSquare}
+use Rattle.normal.specs.Calls.{Window}
+use Rattle.normal.proofs.Bounds.{tap-bound, square-bound}
 use Rattle.fit.specs.Steps.{zeros, chromaFit}
-use Rattle.fit.specs.Sums.{exactFit, planeSums}
+use Rattle.fit.specs.Sums.{exactFit}
 use Rattle.fit.proofs.ExactFit.{chroma-exact}
 
 any : (b : Bool) → (b || true) ≡ true
 any true = refl
 any false = refl
 
-module _ (l : Luma) (source denoised : List ℕ) (cw ch lag : ℕ) where
-  pub narrow : cw ≤ 2 * lag → zeros ≡ chromaFit l (pair source denoised cw ch) lag
+module _ (l : Luma) (plane : Pair) (lag : ℕ) where
+  pub narrow : plane .width ≤ 2 * lag → zeros ≡ chromaFit l plane lag
   unfolding chromaFit
-  narrow a = rw (le-leb cw (2 * lag) a, any (eqb (length source) 0))
+  narrow a = rw (le-leb (plane .width) (2 * lag) a, any (eqb (length (plane .source)) 0))
 
-  pub short : ch ≤ lag → zeros ≡ chromaFit l (pair source denoised cw ch) lag
+  pub short : plane .height ≤ lag → zeros ≡ chromaFit l plane lag
   unfolding chromaFit
-  short a = rw (le-leb ch lag a, any (leb cw (2 * lag)), any (eqb (length source) 0))
+  short a = rw (le-leb (plane .height) lag a, any (leb (plane .width) (2 * lag)), any (eqb (length (plane .source)) 0))
 
-  module _ (K : Component l source denoised cw ch) (wide : 2 * lag < cw) (high : lag < ch) (few : lag ≤ 3) where
-    pub held : Window cw ch lag
-    held = window cw ch lag few (le-of-lt wide) (le-of-lt high) (chroma.narrow l K) (chroma.low l K)
-
-    pub some : 0 < ch
-    some = omega arith
-
-    -- the squared averages, turned into an f64 once
-    pub squares-are : (z : ℤ) → z ≡ tapSquare (quarters l) cw ch lag → (x : Float) → x ≡ ofInt binary64 (toZ w64 (ofZ w64 z)) → div binary64 x sixteen ≡ ofScaled 4 (tapSquare (quarters l) cw ch lag)
-    unfolding ofBits
-    squares-are z e x d =
-        let b = square-bound held (luma-over l K some) in
-        ap (λ (y : Float). div binary64 y sixteen) (d ∙ ap (λ (y : ℤ). ofInt binary64 (toZ w64 (ofZ w64 y))) e ∙ ap (ofInt binary64) (toZ-ofZ w64 _ (sfits w64 _ (lt-of-le-of-lt b (lit< tt)))))
-        ∙ divided 4 _ sixteen (le-trans b (lit≤ tt)) (refl, refl)
-
-    pub solved : (taps : List ℤ) (squares : Float) (r : List ℤ) → taps ≡ tabulate (factors lag) (tapEntry (noiseAt source denoised (columnsFrom cw 0)) (quarters l) cw ch lag)
-        → squares ≡ ofScaled 4 (tapSquare (quarters l) cw ch lag) → r ≡ exactFit (planeSums source denoised cw ch lag) taps squares (neighbours lag) (factors lag)
-        → r ≡ chromaFit l (pair source denoised cw ch) lag
+  module _ (size : length (plane .source) ≡ plane .width * plane .height) (wide : 2 * lag < plane .width) (high : lag < plane .height)
+      (S : Limited planeLimit sampleLimit (own plane)) (L : Limited planeLimit sampleLimit (average l)) (T : InFit plane lag (average l)) where
+    solved : (entries : ℕ → ℕ → ℤ) → ((i j : ℕ) → i < factors lag → j < factors lag → entries i j ≡ entry (noiseOf plane) (plane .width) (plane .height) lag i j)
+        → (taps : ℕ → ℤ) → ((i : ℕ) → i < factors lag → taps i ≡ tapEntry (noiseOf plane) (quarters l) (plane .width) (plane .height) lag i)
+        → ((i : ℕ) → i < factors lag → natAbs (tapEntry (noiseOf plane) (quarters l) (plane .width) (plane .height) lag i) ≤ 2 ^ 53)
+        → (squares : Float) → squares ≡ ofScaled 4 (tapSquare (quarters l) (plane .width) (plane .height) lag)
+        → (r : List ℤ) → r ≡ exactFit entries taps squares lag (factors lag) → r ≡ chromaFit l plane lag
     unfolding chromaFit
-    solved taps squares r t s d =
-        rw (ne-eqb (length source) 0 full, lt-leb cw (2 * lag) wide, lt-leb ch lag high)
-        (d ∙ chroma-exact source denoised cw ch lag (K .of-chroma) (chroma.narrow l K) (chroma.low l K) l K held some t s)
+    solved entries are taps taken small squares e r d =
+        rw (ne-eqb (length (plane .source)) 0 full, lt-leb (plane .width) (2 * lag) wide, lt-leb (plane .height) lag high)
+        (d ∙ chroma-exact plane lag S entries are l L T taps squares taken small e)
       where
-        columns : 0 < cw
+        columns : 0 < plane .width
         columns = omega arith
 
-        full : length source ≡ 0 → ⊥
-        full e = let p : 0 < cw * ch = mul-pos columns some in omega (arith, K .of-chroma .source-size)
+        rows : 0 < plane .height
+        rows = omega arith
 
--- both planes, for the sums with the luma tap
-pub both : (l : Luma) {b db r dr : List ℕ} (cw ch lag : ℕ) → Component l b db cw ch → Component l r dr cw ch → 2 * lag < cw → lag < ch → lag ≤ 3
-    → Planes l b db r dr (columnsFrom cw 0) cw ch lag
-both l cw ch lag K J wide high few = record {
-  over = luma-over l K (omega arith);
-  cb-rows = rows (K .of-chroma);
-  cr-rows = rows (J .of-chroma);
-  window = held l _ _ cw ch lag K wide high few;
-}
+        full : length (plane .source) ≡ 0 → ⊥
+        full z = let p : 0 < plane .width * plane .height = mul-pos columns rows in omega (arith, size)
 
--- their sums with the tap have a place for each factor
-module _ {l : Luma} {b db r dr : List ℕ} {g : Grid} {cw ch lag : ℕ} {squares : ℤ} {blue red : List ℤ} (T : TapSums l b db r dr g cw ch lag squares blue red) where
-  pub blue-size : length blue ≡ factors lag
-  blue-size = size (factors lag) _ (T .cb-are)
+-- ---- a component of what a geometry shows, from its exact sums
+module _ {g : Geometry} (O : Over g) {y y-denoised source denoised : List ℕ} (L : Seen (g .luma) y y-denoised) (S : Seen (g .chroma) source denoised)
+    {lag : ℕ} (few : lag ≤ 3) (wide : 2 * lag < g .chroma .width) (high : lag < g .chroma .height) where
+  abbrev luma : Luma
+  luma = lumaSeen g y y-denoised
 
-  pub red-size : length red ≡ factors lag
-  red-size = size (factors lag) _ (T .cr-are)
+  abbrev plane : Pair
+  plane = seen (g .chroma) source denoised
+
+  abbrev tapped : ℕ → ℤ
+  tapped i = tapEntry (noiseOf plane) (quarters luma) (plane .width) (plane .height) lag i
+
+  abbrev squared : ℤ
+  squared = tapSquare (quarters luma) (plane .width) (plane .height) lag
+
+  pub held : Window (g .chroma .width) (g .chroma .height) lag
+  held = record { few = few; columns = le-of-lt wide; rows = le-of-lt high }
+
+  -- the squared averages, turned into an f64 once
+  in-sixteenths : (z : ℤ) → z ≡ squared → (x : Float) → x ≡ ofInt binary64 (toZ w64 (ofZ w64 z)) → div binary64 x sixteen ≡ ofScaled 4 squared
+  unfolding ofBits
+  in-sixteenths z e x d =
+      let b = le-trans (square-bound O L S held) (lit≤ tt) in
+      ap (λ (t : Float). div binary64 t sixteen) (d ∙ ap (λ (k : ℤ). ofInt binary64 (toZ w64 (ofZ w64 k))) e ∙ ap (ofInt binary64) (toZ-ofZ w64 squared (sfits w64 squared (lt-of-le-of-lt b (lit< tt)))))
+      ∙ divided 4 squared sixteen b (refl, refl)
+
+  pub component-fit : (z : ℤ) → z ≡ squared → (x : Float) → x ≡ ofInt binary64 (toZ w64 (ofZ w64 z)) → (taps : List ℤ) → taps ≡ tabulate (factors lag) tapped
+      → (r : List ℤ) → r ≡ exactFit (entry (noiseOf plane) (plane .width) (plane .height) lag) (at taps) (div binary64 x sixteen) lag (factors lag) → r ≡ chromaFit luma plane lag
+  component-fit z e x d taps t r f =
+      solved luma plane lag (viewed-length (g .chroma) source) wide high (seen-samples S) (luma-limited O L) (tap-over O y y-denoised source denoised lag)
+      (entry (noiseOf plane) (plane .width) (plane .height) lag) (λ i j a b. refl) (at taps) (line-entry (factors lag) tapped t)
+      (λ i k. le-trans (tap-bound O L S held i k) (lit≤ tt)) (div binary64 x sixteen) (in-sixteenths z e x d) r f
+
+-- sums with the tap have a place for each factor
+pub taps-size : (n : ℕ) (f : ℕ → ℤ) (taps : List ℤ) → taps ≡ tabulate n f → length taps ≡ n
+taps-size n f taps e = ap length e ∙ length-tabulate n f

@@ -7,16 +7,14 @@ use lib.IntN.{ℤ}
 use lib.ListN.{length}
 use lib.Ieee.{le}
 use Rattle.laws.specs.Scaled.{plusZero}
-use Rattle.frame.specs.Size.{chromaWidth, chromaHeight}
 use Rattle.frame.specs.Questions.{accepted}
 use Rattle.frame.specs.Calls.{fitRefusal}
 use Rattle.frame.specs.declared.Shape.{Shape}
 use Rattle.noise.specs.Average.{Luma}
-use Rattle.noise.specs.Products.{Pair, pair}
-use Rattle.noise.specs.Quarters.{luma}
+use Rattle.noise.specs.Noise.{Pair}
 use Rattle.positions.specs.Counts.{neighbours}
 use Rattle.fit.specs.Steps.{zeros, coefficientsOf, tooSmall, energyF, lumaFit, chromaFit}
-use Rattle.fit.specs.Answer.{allZero, firstOf, unfit, fitOf, fitAnswer}
+use Rattle.fit.specs.Answer.{allZero, firstOf, unfit, foundOf, fitOf, lumaOf, planeOf, fitAnswer}
 use Rattle.fit.specs.declared.Fit.{Fit}
 use Rattle.fit.specs.Words.{lumaSolved, chromaSolved}
 
@@ -35,25 +33,6 @@ module _ (Q : List ℤ → Type 0) (z : Q zeros) where
   unfolding chromaFit
   chroma-case luma plane lag h = unless (eqb (length (plane .source)) 0 || tooSmall plane lag) (coefficientsOf (chromaSolved luma plane lag)) h
 
--- the luma of a frame, and a chroma plane
-abbrev pub lumaOf : Shape → List ℕ → List ℕ → Luma
-lumaOf s y dy = luma y dy (s .width) (s .height) (s .format)
-
-abbrev pub planeOf : Shape → List ℕ → List ℕ → Pair
-planeOf s c dc = pair c dc (chromaWidth (s .format) (s .width)) (chromaHeight (s .format) (s .height))
-
--- a fit
-abbrev pub foundOf : Shape → List ℕ → List ℕ → List ℕ → List ℕ → List ℕ → List ℕ → ℕ → Fit
-foundOf s y cb cr dy dcb dcr lag =
-    record {
-      refusal = 0;
-      found = true;
-      count = neighbours lag;
-      luma = firstOf (lumaFit (pair y dy (s .width) (s .height)) lag);
-      cb = chromaFit (lumaOf s y dy) (planeOf s cb dcb) lag;
-      cr = chromaFit (lumaOf s y dy) (planeOf s cr dcr) lag;
-    }
-
 module _ (Q : Fit → Type 0) (none : (n : ℕ) → Q (unfit n)) where
   or-fit : (b : Bool) (f : Fit) → Q f → Q (cond b (unfit 0) f)
   or-fit true f h = none 0
@@ -63,8 +42,9 @@ module _ (Q : Fit → Type 0) (none : (n : ℕ) → Q (unfit n)) where
   or-refused zero f h = h
   or-refused (suc n) f h = none (suc n)
 
-  pub answer-case : (s : Shape) (y cb cr dy dcb dcr : List ℕ) (lag : ℕ) → Q (foundOf s y cb cr dy dcb dcr lag) → Q (fitAnswer s y cb cr dy dcb dcr lag)
+  pub answer-case : (s : Shape) (y cb cr y-denoised cb-denoised cr-denoised : List ℕ) (lag : ℕ)
+      → Q (foundOf (lumaOf s y y-denoised) (planeOf s cb cb-denoised) (planeOf s cr cr-denoised) lag) → Q (fitAnswer s y cb cr y-denoised cb-denoised cr-denoised lag)
   unfolding fitAnswer fitOf
-  answer-case s y cb cr dy dcb dcr lag h =
-      or-refused (fitRefusal s y cb cr dy dcb dcr lag) (fitOf s y cb cr dy dcb dcr lag)
-      (or-fit (allZero (firstOf (lumaFit (pair y dy (s .width) (s .height)) lag)) (neighbours lag)) (foundOf s y cb cr dy dcb dcr lag) h)
+  answer-case s y cb cr y-denoised cb-denoised cr-denoised lag h =
+      or-refused (fitRefusal s y cb cr y-denoised cb-denoised cr-denoised lag) _
+      (or-fit (allZero (firstOf (lumaFit (lumaOf s y y-denoised .plane) lag)) (neighbours lag)) _ h)

@@ -1,31 +1,27 @@
 -- The energy in f64 is at most plus zero exactly where the exact sum of squares is 0: that is no negative number, and f64 holds it. Assumes nothing.
 use mathlib.Core.Path.{_≡_, refl, sym, ap, _∙_}
 use mathlib.Core.Bool.{Bool, true, false, _&&_, _||_, true≢false}
-use mathlib.Core.List.{List}
 use Prim.Native.Nat.{ℕ, zero, suc, _+_, _*_, _^_, _≤_, _<_, zero-le}
-use native.Mathlib.Nat.{le-trans, mul-pos, zero-mul}
+use native.Mathlib.Nat.{mul-pos, zero-mul}
 use native.Mathlib.Omega.{arith}
-use lib.Dec.{eqb, ltb, lit≤}
+use lib.Dec.{eqb, ltb}
 use lib.IntN.{ℤ, pos, negsuc, natAbs, pos-ne-negsuc}
 use lib.Signed.{_≤ℤ_}
 use lib.Ieee.{Float, nan, inf, fin, binary64, up, down, le, lt, eq, ofInt, ofBits}
 use lib.Ieee.Exact.{HasValue}
 use lib.Ieee.Fits.{down-pos}
 use borrow.Author.Tests.{ne-eqb, le-ltb}
+use Rattle.laws.specs.Limits.{planeLimit, sampleLimit}
 use Rattle.laws.specs.Scaled.{plusZero, signed}
 use Rattle.laws.proofs.Scaled.{holds-int}
 use Rattle.laws.proofs.Sums.{sum-nonneg}
 use Rattle.laws.proofs.Whole.{square-nonneg}
-use Rattle.noise.specs.Noise.{noise, place}
-use Rattle.noise.specs.Lines.{Plane}
-use Rattle.noise.specs.Grids.{noiseAt}
-use Rattle.noise.specs.Products.{pair}
-use Rattle.noise.proofs.Grids.{columnsFrom}
+use Rattle.noise.specs.Noise.{Pair, noiseOf}
+use Rattle.noise.specs.Products.{own}
+use Rattle.noise.specs.Claim.{Limited}
 use Rattle.positions.specs.Counts.{neighbours}
 use Rattle.normal.specs.Normal.{neighbour, windowSum, entry}
-use Rattle.normal.specs.Calls.{Window}
-use Rattle.normal.proofs.Callers.{rows, picture}
-use Rattle.normal.proofs.Bounds.{window-ext, sample-last, entry-bound}
+use Rattle.normal.proofs.Windows.{InWindow, window-ext, sample-last}
 use Rattle.fit.specs.Steps.{energyF}
 use Rattle.fit.specs.Words.{energy}
 use Rattle.fit.proofs.FloatEntries.{energy-sum}
@@ -58,27 +54,23 @@ unfolding le lt eq ofInt ofBits
 zero-is = refl
 
 -- ---- the energy
-module _ (source denoised : List ℕ) (w h lag : ℕ) where
-  energy-is : entry (noiseAt source denoised (columnsFrom w 0)) w h lag (neighbours lag) (neighbours lag) ≡ energy (pair source denoised w h) lag
-  energy-is = window-ext w h lag _ _ _ _ target target
+module _ (plane : Pair) (lag : ℕ) where
+  energy-is : entry (noiseOf plane) (plane .width) (plane .height) lag (neighbours lag) (neighbours lag) ≡ energy plane lag
+  energy-is = window-ext (plane .width) (plane .height) lag _ _ _ _ last last
     where
-      target : (y x : ℕ) → lag ≤ y → lag ≤ x → neighbour (noiseAt source denoised (columnsFrom w 0)) lag (neighbours lag) y x ≡ noise source denoised (place w y x)
-      target y x a b = sample-last (noiseAt source denoised (columnsFrom w 0)) lag y x a b ∙ picture source denoised w y x
+      last : (y x : ℕ) → InWindow (plane .width) (plane .height) lag y x → neighbour (noiseOf plane) lag (neighbours lag) y x ≡ noiseOf plane y x
+      last y x p = sample-last (noiseOf plane) lag y x (p .above) (p .left)
 
-  not-negative : pos 0 ≤ℤ energy (pair source denoised w h) lag
+  not-negative : pos 0 ≤ℤ energy plane lag
   unfolding windowSum
-  not-negative = sum-nonneg _ _ (λ y l. sum-nonneg _ _ (λ x k. square-nonneg (noise source denoised (place w (lag + y) (lag + x)))))
+  not-negative = sum-nonneg _ _ (λ y l. sum-nonneg _ _ (λ x k. square-nonneg (noiseOf plane (lag + y) (lag + x))))
 
-  module _ (P : Plane w h source denoised) (wide : w ≤ 4096) (high : h ≤ 4096) where
-    in-float : energyF (pair source denoised w h) lag ≡ ofInt binary64 (energy (pair source denoised w h) lag)
-    in-float = energy-sum source denoised w h lag P wide high ∙ ap (ofInt binary64) energy-is
+  module _ (S : Limited planeLimit sampleLimit (own plane)) where
+    in-float : energyF plane lag ≡ ofInt binary64 (energy plane lag)
+    in-float = energy-sum plane lag S ∙ ap (ofInt binary64) energy-is
 
-    pub still-flat : energy (pair source denoised w h) lag ≡ pos 0 → le (energyF (pair source denoised w h) lag) plusZero ≡ true
+    pub still-flat : energy plane lag ≡ pos 0 → le (energyF plane lag) plusZero ≡ true
     still-flat e = ap (λ (x : Float). le x plusZero) (in-float ∙ ap (ofInt binary64) e) ∙ zero-is
 
-    pub flat-still : Window w h lag → le (energyF (pair source denoised w h) lag) plusZero ≡ true → energy (pair source denoised w h) lag ≡ pos 0
-    flat-still W t =
-        at-most-zero (energy (pair source denoised w h) lag) not-negative bound (sym (ap (λ (x : Float). le x plusZero) in-float) ∙ t)
-      where
-        bound : natAbs (energy (pair source denoised w h) lag) ≤ 2 ^ 53
-        bound = rw (← energy-is) (le-trans (entry-bound W (columnsFrom w 0) (rows P) (neighbours lag) (neighbours lag) (omega arith) (omega arith)) (lit≤ tt))
+    pub flat-still : natAbs (entry (noiseOf plane) (plane .width) (plane .height) lag (neighbours lag) (neighbours lag)) ≤ 2 ^ 53 → le (energyF plane lag) plusZero ≡ true → energy plane lag ≡ pos 0
+    flat-still b t = at-most-zero (energy plane lag) not-negative (rw (← energy-is) b) (sym (ap (λ (x : Float). le x plusZero) in-float) ∙ t)

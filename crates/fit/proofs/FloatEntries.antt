@@ -1,6 +1,5 @@
 -- Each f64 sum of a fit is its exact sum, turned into an f64 once: a case of demand 3. Assumes nothing.
 use mathlib.Core.Path.{_≡_, refl, sym, ap, _∙_}
-use mathlib.Core.List.{List}
 use Prim.Native.Nat.{ℕ, _+_, _-_, _/_, _%_, _≤_, _<_}
 use native.Mathlib.Omega.{arith}
 use lib.IntN.{pos, _-ℤ_, _*ℤ_}
@@ -8,83 +7,72 @@ use lib.Ieee.{binary64, ofInt}
 use Rattle.laws.specs.Scaled.{ofScaled}
 use Rattle.laws.proofs.Scaled.{scaled-int}
 use Rattle.laws.specs.Limits.{planeLimit, sampleLimit}
-use Rattle.frame.specs.Size.{chromaWidth, chromaHeight}
+use Rattle.noise.specs.Noise.{Pair, noiseOf}
 use Rattle.noise.specs.Average.{Luma, quarters}
-use Rattle.noise.specs.Lines.{Plane}
-use Rattle.noise.specs.Grids.{noiseAt}
-use Rattle.noise.specs.Products.{Pair, average, own, whole, pair}
+use Rattle.noise.specs.Products.{average, own, whole}
 use Rattle.noise.specs.Claim.{Limited}
-use Rattle.noise.specs.Steps.{InFit, tap}
-use Rattle.noise.proofs.Grids.{columnsFrom}
-use Rattle.noise.proofs.Accepted.{plane-samples}
+use Rattle.noise.specs.Steps.{InFit}
 use Rattle.noise.proofs.Products.{frame-held}
 use Rattle.noise.proofs.FitWindow.{fit-sum, in-quarters}
 use Rattle.positions.specs.Counts.{side, neighbours, factors}
 use Rattle.normal.specs.Normal.{Picture, neighbour, entry, tapEntry, tapSquare}
-use Rattle.normal.proofs.Bounds.{window-rows, window-ext, window-swap}
+use Rattle.normal.proofs.Windows.{InWindow, window-rows, window-ext, window-swap}
 use Rattle.fit.specs.Steps.{neighbourOf, fitF, energyF}
 use Rattle.fit.proofs.Near.{counted, is-counted, counted-near, last-own, counted-noise}
 
-module _ (source denoised : List ℕ) (w h lag : ℕ) where
-  abbrev plane : Pair
-  plane = pair source denoised w h
+module _ (plane : Pair) (lag : ℕ) where
+  abbrev w : ℕ
+  w = plane .width
 
-  abbrev noises : Picture
-  noises = noiseAt source denoised (columnsFrom w 0)
+  abbrev h : ℕ
+  h = plane .height
 
   -- factor i at each place
   abbrev reached : ℕ → Picture
   reached i y x = whole plane (pos (i / side lag) -ℤ pos lag) (pos (i % side lag) -ℤ pos lag) (y, x)
 
-  pub noise-sum : Plane w h source denoised → w ≤ 4096 → h ≤ 4096 → (i j : ℕ) → i < factors lag → j < factors lag
-      → fitF plane lag (neighbourOf plane lag i) (neighbourOf plane lag j) ≡ ofInt binary64 (entry noises w h lag i j)
-  unfolding fitF
-  noise-sum P n l i j a b =
-      let S : Limited planeLimit sampleLimit (own plane) = plane-samples w h source denoised n l P in
-      (λ t. fitF plane lag (is-counted plane lag i a t) (is-counted plane lag j b t))
-      ∙ fit-sum planeLimit sampleLimit plane (counted plane lag i) (counted plane lag j) (frame-held (counted plane lag i) (counted plane lag j)) S S lag (counted-near plane lag i a) (counted-near plane lag j b)
-      ∙ ap (ofScaled 0) (sym (window-rows w h lag (reached i) (reached j)) ∙ window-ext w h lag _ _ _ _ (λ y x. counted-noise source denoised w h lag i y x) (λ y x. counted-noise source denoised w h lag j y x))
-      ∙ scaled-int (entry noises w h lag i j)
+  is-neighbour : (i y x : ℕ) → InWindow w h lag y x → reached i y x ≡ neighbour (noiseOf plane) lag i y x
+  is-neighbour i y x p = counted-noise plane lag i y x (p .above) (p .left)
 
-  pub energy-sum : Plane w h source denoised → w ≤ 4096 → h ≤ 4096 → energyF plane lag ≡ ofInt binary64 (entry noises w h lag (neighbours lag) (neighbours lag))
-  unfolding energyF
-  energy-sum P n l =
-      (λ t. fitF plane lag (sym (last-own plane lag) t) (sym (last-own plane lag) t)) ∙ noise-sum P n l (neighbours lag) (neighbours lag) (omega arith) (omega arith)
+  module _ (S : Limited planeLimit sampleLimit (own plane)) where
+    pub noise-sum : (i j : ℕ) → i < factors lag → j < factors lag
+        → fitF plane lag (neighbourOf plane lag i) (neighbourOf plane lag j) ≡ ofInt binary64 (entry (noiseOf plane) w h lag i j)
+    unfolding fitF
+    noise-sum i j a b =
+        (λ t. fitF plane lag (is-counted plane lag i a t) (is-counted plane lag j b t))
+        ∙ fit-sum planeLimit sampleLimit plane (counted plane lag i) (counted plane lag j) (frame-held (counted plane lag i) (counted plane lag j)) S S lag (counted-near plane lag i a) (counted-near plane lag j b)
+        ∙ ap (ofScaled 0) (sym (window-rows w h lag (reached i) (reached j)) ∙ window-ext w h lag _ _ _ _ (is-neighbour i) (is-neighbour j))
+        ∙ scaled-int (entry (noiseOf plane) w h lag i j)
+
+    pub energy-sum : energyF plane lag ≡ ofInt binary64 (entry (noiseOf plane) w h lag (neighbours lag) (neighbours lag))
+    unfolding energyF
+    energy-sum =
+        (λ t. fitF plane lag (sym (last-own plane lag) t) (sym (last-own plane lag) t)) ∙ noise-sum (neighbours lag) (neighbours lag) (omega arith) (omega arith)
 
   -- with the luma average
-  module _ (l : Luma) (columns : w ≡ chromaWidth (l .format) (l .width)) (rows : h ≡ chromaHeight (l .format) (l .height))
-      (L : Limited planeLimit sampleLimit (average l)) where
-    tapped : InFit plane lag (average l)
-    tapped = tap l (sym rows) (sym columns)
-
+  module _ (l : Luma) (L : Limited planeLimit sampleLimit (average l)) (tapped : InFit plane lag (average l)) where
     pub square-sum : fitF plane lag (average l) (average l) ≡ ofScaled 4 (tapSquare (quarters l) w h lag)
     unfolding fitF
     square-sum =
         fit-sum planeLimit sampleLimit plane (average l) (average l) (frame-held (average l) (average l)) L L lag tapped tapped
         ∙ ap (ofScaled 4) (sym (window-rows w h lag (quarters l) (quarters l)))
 
-    module _ (P : Plane w h source denoised) (n : w ≤ 4096) (s : h ≤ 4096) (i : ℕ) (a : i < factors lag) where
-      S : Limited planeLimit sampleLimit (own plane)
-      S = plane-samples w h source denoised n s P
-
-      is-neighbour : (y x : ℕ) → lag ≤ y → lag ≤ x → reached i y x ≡ neighbour noises lag i y x
-      is-neighbour y x = counted-noise source denoised w h lag i y x
-
-      pub tap-sum : fitF plane lag (neighbourOf plane lag i) (average l) ≡ ofScaled 2 (tapEntry noises (quarters l) w h lag i)
+    module _ (S : Limited planeLimit sampleLimit (own plane)) where
+      pub tap-sum : (i : ℕ) → i < factors lag → fitF plane lag (neighbourOf plane lag i) (average l) ≡ ofScaled 2 (tapEntry (noiseOf plane) (quarters l) w h lag i)
       unfolding fitF
-      tap-sum =
+      tap-sum i a =
           (λ t. fitF plane lag (is-counted plane lag i a t) (average l))
           ∙ fit-sum planeLimit sampleLimit plane (counted plane lag i) (average l) (frame-held (counted plane lag i) (average l)) S L lag (counted-near plane lag i a) tapped
           ∙ in-quarters (λ y x. reached i (lag + y) (lag + x) *ℤ quarters l (lag + y) (lag + x)) (h - lag) (w - lag - lag)
-          ∙ ap (ofScaled 2) (sym (window-rows w h lag (reached i) (quarters l)) ∙ window-ext w h lag _ _ _ _ is-neighbour (λ y x c d. refl))
+          ∙ ap (ofScaled 2) (sym (window-rows w h lag (reached i) (quarters l)) ∙ window-ext w h lag _ _ _ _ (is-neighbour i) (λ y x p. refl))
 
-      tap-first : fitF plane lag (average l) (neighbourOf plane lag i) ≡ ofScaled 2 (tapEntry noises (quarters l) w h lag i)
+      tap-first : (i : ℕ) → i < factors lag → fitF plane lag (average l) (neighbourOf plane lag i) ≡ ofScaled 2 (tapEntry (noiseOf plane) (quarters l) w h lag i)
       unfolding fitF
-      tap-first =
+      tap-first i a =
           (λ t. fitF plane lag (average l) (is-counted plane lag i a t))
           ∙ fit-sum planeLimit sampleLimit plane (average l) (counted plane lag i) (frame-held (average l) (counted plane lag i)) L S lag tapped (counted-near plane lag i a)
           ∙ in-quarters (λ y x. quarters l (lag + y) (lag + x) *ℤ reached i (lag + y) (lag + x)) (h - lag) (w - lag - lag)
-          ∙ ap (ofScaled 2) (sym (window-rows w h lag (quarters l) (reached i)) ∙ window-ext w h lag _ _ _ _ (λ y x c d. refl) is-neighbour ∙ window-swap w h lag (quarters l) (neighbour noises lag i))
+          ∙ ap (ofScaled 2) (sym (window-rows w h lag (quarters l) (reached i)) ∙ window-ext w h lag _ _ _ _ (λ y x p. refl) (is-neighbour i) ∙ window-swap w h lag (quarters l) (neighbour (noiseOf plane) lag i))
 
-    pub own-sum : Plane w h source denoised → w ≤ 4096 → h ≤ 4096 → fitF plane lag (average l) (own plane) ≡ ofScaled 2 (tapEntry noises (quarters l) w h lag (neighbours lag))
-    own-sum P n s = ap (fitF plane lag (average l)) (sym (last-own plane lag)) ∙ tap-first P n s (neighbours lag) (omega arith)
+      pub own-sum : fitF plane lag (average l) (own plane) ≡ ofScaled 2 (tapEntry (noiseOf plane) (quarters l) w h lag (neighbours lag))
+      own-sum = ap (fitF plane lag (average l)) (sym (last-own plane lag)) ∙ tap-first (neighbours lag) (omega arith)

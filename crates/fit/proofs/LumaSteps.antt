@@ -2,7 +2,8 @@
 use mathlib.Core.Path.{_≡_, ap, _∙_}
 use mathlib.Core.Bool.{true, false}
 use mathlib.Core.List.{List}
-use Prim.Native.Nat.{ℕ, _+_, _*_, _≤_, _<_}
+use Prim.Native.Nat.{ℕ, _*_, _≤_, _<_}
+use native.Mathlib.Omega.{arith}
 use lib.IntN.{ℤ}
 use lib.Ieee.{Float, binary64, le, ofInt}
 use mir.Syntax.{w64}
@@ -10,46 +11,49 @@ use mir.Val.{SFits, ofZ, toZ}
 use mir.ValLaws.{toZ-ofZ}
 use borrow.Author.Tests.{eq-eqb, ne-eqb, le-leb, lt-leb}
 use Rattle.laws.specs.Scaled.{plusZero}
-use Rattle.noise.specs.Lines.{at, Plane}
-use Rattle.noise.specs.Products.{pair}
-use Rattle.positions.specs.Counts.{neighbours}
+use Rattle.laws.specs.Limits.{planeLimit, sampleLimit}
+use Rattle.noise.specs.Noise.{Pair, noiseOf}
+use Rattle.noise.specs.Products.{own}
+use Rattle.noise.specs.Claim.{Limited}
+use Rattle.positions.specs.Counts.{neighbours, factors}
+use Rattle.normal.specs.Normal.{entry}
+use Rattle.normal.specs.Layout.{sumAt}
+use Rattle.normal.specs.Calls.{NeighbourSums}
 use Rattle.fit.specs.Steps.{zeros, energyF, lumaFit}
-use Rattle.fit.specs.Sums.{exactFit, planeSums}
+use Rattle.fit.specs.Sums.{exactFit}
 use Rattle.fit.proofs.ExactFit.{energy-exact, luma-exact}
 
-module _ (source denoised : List ℕ) (w h lag : ℕ) where
-  pub lag-zero : lag ≡ 0 → zeros ≡ lumaFit (pair source denoised w h) lag
+module _ (plane : Pair) (lag : ℕ) where
+  pub lag-zero : lag ≡ 0 → zeros ≡ lumaFit plane lag
   unfolding lumaFit
   lag-zero e = rw (eq-eqb lag 0 e)
 
   module _ (some : lag ≡ 0 → ⊥) where
-    pub narrow : w ≤ 2 * lag → zeros ≡ lumaFit (pair source denoised w h) lag
+    pub narrow : plane .width ≤ 2 * lag → zeros ≡ lumaFit plane lag
     unfolding lumaFit
-    narrow a = rw (ne-eqb lag 0 some, le-leb w (2 * lag) a)
+    narrow a = rw (ne-eqb lag 0 some, le-leb (plane .width) (2 * lag) a)
 
-    module _ (wide : 2 * lag < w) where
-      pub short : h ≤ lag → zeros ≡ lumaFit (pair source denoised w h) lag
+    module _ (wide : 2 * lag < plane .width) where
+      pub short : plane .height ≤ lag → zeros ≡ lumaFit plane lag
       unfolding lumaFit
-      short b = rw (ne-eqb lag 0 some, lt-leb w (2 * lag) wide, le-leb h lag b)
+      short b = rw (ne-eqb lag 0 some, lt-leb (plane .width) (2 * lag) wide, le-leb (plane .height) lag b)
 
-      module _ (high : lag < h) (x : Float) (energy : x ≡ energyF (pair source denoised w h) lag) where
-        pub flat : le x plusZero ≡ true → zeros ≡ lumaFit (pair source denoised w h) lag
+      module _ (high : lag < plane .height) (x : Float) (energy : x ≡ energyF plane lag) where
+        pub flat : le x plusZero ≡ true → zeros ≡ lumaFit plane lag
         unfolding lumaFit
-        flat t = rw (ne-eqb lag 0 some, lt-leb w (2 * lag) wide, lt-leb h lag high, ← energy, t)
+        flat t = rw (ne-eqb lag 0 some, lt-leb (plane .width) (2 * lag) wide, lt-leb (plane .height) lag high, ← energy, t)
 
-        pub solved : Plane w h source denoised → w ≤ 4096 → h ≤ 4096 → le x plusZero ≡ false
-            → (sums taps : List ℤ) (squares : Float) (r : List ℤ) → sums ≡ planeSums source denoised w h lag → r ≡ exactFit sums taps squares (neighbours lag) (neighbours lag)
-            → r ≡ lumaFit (pair source denoised w h) lag
+        pub solved : le x plusZero ≡ false → Limited planeLimit sampleLimit (own plane)
+            → (entries : ℕ → ℕ → ℤ) → ((i j : ℕ) → i < factors lag → j < factors lag → entries i j ≡ entry (noiseOf plane) (plane .width) (plane .height) lag i j)
+            → (taps : ℕ → ℤ) (squares : Float) (p : ℕ) → p ≡ neighbours lag → (r : List ℤ) → r ≡ exactFit entries taps squares lag p
+            → r ≡ lumaFit plane lag
         unfolding lumaFit
-        solved P n l t sums taps squares r e d =
-            rw (ne-eqb lag 0 some, lt-leb w (2 * lag) wide, lt-leb h lag high, ← energy, t)
-            (d ∙ ap (λ (z : List ℤ). exactFit z taps squares (neighbours lag) (neighbours lag)) e ∙ luma-exact source denoised w h lag P n l taps squares)
+        solved t S entries are taps squares p e r d =
+            rw (ne-eqb lag 0 some, lt-leb (plane .width) (2 * lag) wide, lt-leb (plane .height) lag high, ← energy, t)
+            (d ∙ ap (exactFit entries taps squares lag) e ∙ luma-exact plane lag S entries are taps squares)
 
   -- the energy, read from the sums
-  pub energy-read : Plane w h source denoised → w ≤ 4096 → h ≤ 4096 → (sums : List ℤ) → sums ≡ planeSums source denoised w h lag
-      → SFits w64 (at sums (neighbours lag * (neighbours lag + 1) + neighbours lag)) → (x : Float)
-      → x ≡ ofInt binary64 (toZ w64 (ofZ w64 (at sums (neighbours lag * (neighbours lag + 1) + neighbours lag)))) → x ≡ energyF (pair source denoised w h) lag
-  energy-read P n l sums e f x d =
-      d ∙ ap (ofInt binary64) (toZ-ofZ w64 _ f)
-      ∙ ap (λ (z : List ℤ). ofInt binary64 (at z (neighbours lag * (neighbours lag + 1) + neighbours lag))) e
-      ∙ energy-exact source denoised w h lag P n l
+  pub energy-read : Limited planeLimit sampleLimit (own plane) → (sums : List ℤ) → NeighbourSums plane lag sums → (n : ℕ) → n ≡ neighbours lag
+      → (z : ℤ) → SFits w64 z → z ≡ sumAt sums lag n n → (x : Float) → x ≡ ofInt binary64 (toZ w64 (ofZ w64 z)) → x ≡ energyF plane lag
+  energy-read S sums N n e z f r x d =
+      d ∙ energy-exact plane lag S (toZ-ofZ w64 z f ∙ r ∙ (λ t. sumAt sums lag (e t) (e t)) ∙ N .entries (neighbours lag) (neighbours lag) (omega arith) (omega arith))

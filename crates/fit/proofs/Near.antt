@@ -1,7 +1,6 @@
 -- A neighbour, as a factor: it is one of the fit's, it reaches the place that `neighbour` counts to, and the last is the sample itself. Assumes nothing.
 use mathlib.Core.Path.{_≡_, sym, ap, _∙_, subst}
 use mathlib.Core.Bool.{Bool, true, false, cond}
-use mathlib.Core.List.{List}
 use mathlib.Core.Logic.{⊎-elim}
 use Prim.Native.Nat.{ℕ, zero, suc, _+_, _-_, _*_, _/_, _%_, _≤_, _<_, zero-le}
 use native.Mathlib.Nat.{le-of-eq, lt-of-lt-of-le, eq-or-lt-of-le, div-lt-iff-lt-mul, mod-lt}
@@ -11,11 +10,9 @@ use lib.Dec.{ltb, le→leb}
 use lib.IntN.{ℤ, pos, negsuc, negℤ, natAbs, _+ℤ_, _-ℤ_, +ℤ-assoc, +ℤ-invr, +ℤ-negℤ-cancel}
 use lib.ListN.{getD, List·getD-eq-default}
 use lib.Signed.{_≤ℤ_, leZ-yes}
-use Rattle.noise.specs.Noise.{noise, place}
-use Rattle.noise.specs.Grids.{noiseAt}
-use Rattle.noise.specs.Products.{Pair, Factor, noiseFrom, own, whole, pair}
+use Rattle.noise.specs.Noise.{Pair, noiseOf}
+use Rattle.noise.specs.Products.{Factor, noiseFrom, own, whole}
 use Rattle.noise.specs.Steps.{InFit, near}
-use Rattle.noise.proofs.Grids.{columnsFrom}
 use Rattle.positions.specs.Counts.{side, neighbours, factors}
 use Rattle.positions.specs.Positions.{positions}
 use Rattle.positions.specs.Neighbours.{sample}
@@ -23,7 +20,6 @@ use Rattle.positions.proofs.Counts.{factors-le, factors-rows}
 use Rattle.positions.proofs.Neighbours.{positions-neighbours}
 use Rattle.positions.proofs.Filter.{position-at}
 use Rattle.normal.specs.Normal.{neighbour}
-use Rattle.normal.proofs.Callers.{picture}
 use Rattle.fit.specs.Steps.{neighbourOf}
 
 -- ---- a - lag, for a from 0 to lag + m
@@ -96,8 +92,6 @@ pub neighbour-near : (plane : Pair) (lag i : ℕ) → i < factors lag → InFit 
 neighbour-near plane lag i l = subst (InFit plane lag) (sym (is-counted plane lag i l)) (counted-near plane lag i l)
 
 -- its noise
-pub counted-noise : (source denoised : List ℕ) (w h lag i y x : ℕ) → lag ≤ y → lag ≤ x
-    → whole (pair source denoised w h) (pos (i / side lag) -ℤ pos lag) (pos (i % side lag) -ℤ pos lag) (y, x) ≡ neighbour (noiseAt source denoised (columnsFrom w 0)) lag i y x
-counted-noise source denoised w h lag i y x a b =
-    (λ t. noise source denoised (place w (natAbs (on y (i / side lag) lag a t)) (natAbs (on x (i % side lag) lag b t))))
-    ∙ sym (picture source denoised w (y - lag + i / side lag) (x - lag + i % side lag))
+pub counted-noise : (plane : Pair) (lag i y x : ℕ) → lag ≤ y → lag ≤ x
+    → whole plane (pos (i / side lag) -ℤ pos lag) (pos (i % side lag) -ℤ pos lag) (y, x) ≡ neighbour (noiseOf plane) lag i y x
+counted-noise plane lag i y x a b = λ t. noiseOf plane (natAbs (on y (i / side lag) lag a t)) (natAbs (on x (i % side lag) lag b t))

@@ -15,16 +15,10 @@ use Rattle.float.specs.Coefficient.{Written}
 use Rattle.float.proofs.Coefficient.{quant-written}
 use Rattle.solve.specs.Elimination.{value}
 use Rattle.solve.specs.declared.Solved.{Solved}
-use Rattle.noise.specs.Products.{pair}
 use Rattle.fit.specs.Steps.{zeros, quantised, coefficientsOf, chromaFit}
-use Rattle.fit.specs.Answer.{firstOf, fitAnswer}
-use Rattle.fit.specs.declared.Fit.{Fit}
-use Rattle.fit.specs.Words.{lumaSolved, chromaSolved}
-use Rattle.fit.proofs.EachFit.{luma-case, chroma-case, lumaOf, planeOf, answer-case}
-
--- every coefficient of a list can be written
-abbrev pub AllWritten : List ℤ → Type 0
-AllWritten x = (i : ℕ) → Written (getD x i (pos 0))
+use Rattle.fit.specs.Answer.{firstOf, lumaOf, planeOf, fitAnswer}
+use Rattle.fit.specs.Words.{lumaSolved, chromaSolved, AllWritten, FitWritten}
+use Rattle.fit.proofs.EachFit.{luma-case, chroma-case, answer-case}
 
 zero-written : Written (pos 0)
 zero-written = record { field = 128; bits = lit< tt; is = refl }
@@ -50,20 +44,15 @@ solved-written r = go (r .found)
     go false = zeros-written 25
 
 -- of an answer
-pub record FitWritten (f : Fit) : Type 0 where
-  pub luma : AllWritten (f .luma)
-  pub cb : AllWritten (f .cb)
-  pub cr : AllWritten (f .cr)
-
-pub fit-written : (s : Shape) (y cb cr dy dcb dcr : List ℕ) (lag : ℕ) → FitWritten (fitAnswer s y cb cr dy dcb dcr lag)
+pub fit-written : (s : Shape) (y cb cr y-denoised cb-denoised cr-denoised : List ℕ) (lag : ℕ) → FitWritten (fitAnswer s y cb cr y-denoised cb-denoised cr-denoised lag)
 unfolding firstOf
-fit-written s y cb cr dy dcb dcr lag =
-    answer-case FitWritten (λ n. record { luma = zeros-written 24; cb = zeros-written 25; cr = zeros-written 25 }) s y cb cr dy dcb dcr lag
+fit-written s y cb cr y-denoised cb-denoised cr-denoised lag =
+    answer-case FitWritten (λ n. record { luma = zeros-written 24; cb = zeros-written 25; cr = zeros-written 25 }) s y cb cr y-denoised cb-denoised cr-denoised lag
     (record {
-      luma = table-written 24 _ (luma-case AllWritten (zeros-written 25) _ lag (solved-written (lumaSolved (pair y dy (s .width) (s .height)) lag)));
-      cb = chroma cb dcb;
-      cr = chroma cr dcr;
+      luma = table-written 24 _ (luma-case AllWritten (zeros-written 25) _ lag (solved-written (lumaSolved (lumaOf s y y-denoised .plane) lag)));
+      cb = chroma cb cb-denoised;
+      cr = chroma cr cr-denoised;
     })
   where
-    chroma : (c dc : List ℕ) → AllWritten (chromaFit (lumaOf s y dy) (planeOf s c dc) lag)
-    chroma c dc = chroma-case AllWritten (zeros-written 25) (lumaOf s y dy) (planeOf s c dc) lag (solved-written (chromaSolved (lumaOf s y dy) (planeOf s c dc) lag))
+    chroma : (source denoised : List ℕ) → AllWritten (chromaFit (lumaOf s y y-denoised) (planeOf s source denoised) lag)
+    chroma source denoised = chroma-case AllWritten (zeros-written 25) _ _ lag (solved-written (chromaSolved (lumaOf s y y-denoised) (planeOf s source denoised) lag))

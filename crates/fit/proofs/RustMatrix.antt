@@ -10,19 +10,13 @@ use lib.Ieee.{Float, nan}
 use borrow.Author.Tests.{lt-leb}
 use Rattle.laws.specs.Table.{tabulate}
 use Rattle.laws.proofs.Table.{getD-tabulate, length-tabulate}
-use Rattle.noise.specs.Products.{Pair, Factor, own}
+use Rattle.noise.specs.Noise.{Pair}
+use Rattle.noise.specs.Products.{Factor, own}
 use Rattle.solve.specs.Elimination.{Row, Matrix}
 use Rattle.solve.specs.Answer.{solvedOf}
 use Rattle.solve.proofs.Alike.{Alike}
 use Rattle.solve.proofs.Used.{RowAlike, used-alone}
-use Rattle.fit.specs.Steps.{fitF, cellOf, rowOf, matrixOf, valueOf, rightOf, solvedFit}
-
--- `ata`, once its lower half is copied, and `atb`
-abbrev pub ataOf : (ℕ → ℕ → Float) → ℕ → Matrix
-ataOf sum p = tabulate p (λ i. tabulate p (λ j. cond (leb i j) (sum i j) (sum j i)))
-
-abbrev pub atbOf : (ℕ → Float) → ℕ → Row
-atbOf sum p = tabulate p sum
+use Rattle.fit.specs.Steps.{fitF, cellOf, rowOf, matrixOf, valueOf, rightOf, ataOf, atbOf, solvedFit}
 
 tables-alike : {A : Type 0} (R : A → A → Type 0) (d : A) (p : ℕ) → p ≤ 25 → (f g : ℕ → A) → ((i : ℕ) → i < p → R (f i) (g i)) → Alike R d p (tabulate 25 f) (tabulate p g)
 tables-alike R d p h f g e = record {

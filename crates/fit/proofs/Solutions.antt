@@ -2,34 +2,34 @@
 use mathlib.Core.Path.{_≡_, refl, ap, _∙_}
 use mathlib.Core.Bool.{Bool, true, false, cond}
 use mathlib.Core.List.{List}
-use Prim.Native.Nat.{ℕ, _≤_, _<_}
-use native.Mathlib.Nat.{le-of-lt}
-use lib.Dec.{leb}
+use Prim.Native.Nat.{ℕ, _+_, _≤_, _<_}
+use native.Mathlib.Nat.{le-of-lt, le-refl}
+use native.Mathlib.Omega.{arith}
+use lib.Dec.{leb, ltb}
 use lib.IntN.{ℤ}
-use lib.Ieee.{Float}
+use lib.Ieee.{Float, binary64, div, ofInt}
 use borrow.Author.Tests.{leb-true, leb-false}
+use Rattle.laws.specs.Constants.{four}
 use Rattle.laws.specs.Scaled.{plusZero}
 use Rattle.laws.proofs.Table.{tabulate-same}
+use Rattle.positions.specs.Counts.{neighbours, factors}
 use Rattle.solve.specs.Elimination.{Row, Matrix}
 use Rattle.solve.specs.Answer.{solvedOf}
 use Rattle.solve.specs.declared.Solved.{Solved}
 use Rattle.fit.specs.Steps.{cellOf, rowOf, matrixOf, valueOf, rightOf, zeros, quantised, coefficientsOf}
-use Rattle.fit.specs.Sums.{sumAt, rightAt, exactFit}
+use Rattle.fit.specs.Sums.{cellSum, rightSum, exactFit}
 
-module _ (sums taps : List ℤ) (squares : Float) (n p : ℕ) (a : Matrix) (b : Row) (r : Solved)
-    (ea : a ≡ matrixOf (sumAt sums taps squares n) p) (eb : b ≡ rightOf (rightAt sums taps n) p) (er : r ≡ solvedOf a b p) where
-  pub solution : r .found ≡ true → (x : List ℤ) → x ≡ quantised (r .solution .values) → x ≡ exactFit sums taps squares n p
+module _ (entries : ℕ → ℕ → ℤ) (taps : ℕ → ℤ) (squares : Float) (lag p : ℕ) (a : Matrix) (b : Row) (r : Solved)
+    (ea : a ≡ matrixOf (cellSum entries taps squares lag) p) (eb : b ≡ rightOf (rightSum entries taps lag) p) (er : r ≡ solvedOf a b p) where
+  pub solution : r .found ≡ true → (x : List ℤ) → x ≡ quantised (r .solution .values) → x ≡ exactFit entries taps squares lag p
   unfolding exactFit coefficientsOf
   solution f x e = rw (← ea, ← eb, ← er, f) e
 
-  pub no-solution : r .found ≡ false → zeros ≡ exactFit sums taps squares n p
+  pub no-solution : r .found ≡ false → zeros ≡ exactFit entries taps squares lag p
   unfolding exactFit coefficientsOf
   no-solution f = rw (← ea, ← eb, ← er, f)
 
 -- ---- the same sums
-pub with-sums : (sums sums′ taps : List ℤ) (squares : Float) (n p : ℕ) (r : List ℤ) → sums ≡ sums′ → r ≡ exactFit sums taps squares n p → r ≡ exactFit sums′ taps squares n p
-with-sums sums sums′ taps squares n p r e d = d ∙ ap (λ (z : List ℤ). exactFit z taps squares n p) e
-
 module _ (sum sum′ : ℕ → ℕ → Float) (p : ℕ) (same : (i j : ℕ) → i ≤ j → j < p → sum i j ≡ sum′ i j) where
   cell-same : (i j : ℕ) → cellOf sum p i j ≡ cellOf sum′ p i j
   unfolding cellOf
@@ -62,3 +62,27 @@ module _ (sum sum′ : ℕ → Float) (p : ℕ) (same : (i : ℕ) → i < p → 
   pub right-same : rightOf sum p ≡ rightOf sum′ p
   unfolding rightOf
   right-same = tabulate-same 25 (valueOf sum p) (valueOf sum′ p) (λ i l. value-same i)
+
+exact-same : (entries entries′ : ℕ → ℕ → ℤ) (taps : ℕ → ℤ) (squares : Float) (lag p : ℕ) → p ≤ factors lag
+    → ((i j : ℕ) → i < factors lag → j < factors lag → entries i j ≡ entries′ i j) → exactFit entries taps squares lag p ≡ exactFit entries′ taps squares lag p
+unfolding exactFit cellSum rightSum
+exact-same entries entries′ taps squares lag p few same =
+    λ t. coefficientsOf (solvedOf (matrix-same (cellSum entries taps squares lag) (cellSum entries′ taps squares lag) p cells t) (right-same (rightSum entries taps lag) (rightSum entries′ taps lag) p values t) p)
+  where
+    cells : (i j : ℕ) → i ≤ j → j < p → cellSum entries taps squares lag i j ≡ cellSum entries′ taps squares lag i j
+    cells i j a b =
+        let k : i < factors lag = omega arith in
+        let l : j < factors lag = omega arith in
+        λ t. cond (ltb j (neighbours lag)) (ofInt binary64 (same i j k l t)) (cond (ltb i (neighbours lag)) (div binary64 (ofInt binary64 (taps i)) four) squares)
+
+    values : (i : ℕ) → i < p → rightSum entries taps lag i ≡ rightSum entries′ taps lag i
+    values i a =
+        let k : i < factors lag = omega arith in
+        let l : neighbours lag < factors lag = omega arith in
+        λ t. cond (ltb i (neighbours lag)) (ofInt binary64 (same i (neighbours lag) k l t)) (div binary64 (ofInt binary64 (taps (neighbours lag))) four)
+
+-- with the sums of every factor
+pub exact-all : (entries entries′ : ℕ → ℕ → ℤ) (taps : ℕ → ℤ) (squares : Float) (lag p : ℕ) → p + 1 ≡ factors lag
+    → ((i j : ℕ) → i < factors lag → j < factors lag → entries i j ≡ entries′ i j) → (r : List ℤ) → r ≡ exactFit entries taps squares lag (p + 1) → r ≡ exactFit entries′ taps squares lag (factors lag)
+exact-all entries entries′ taps squares lag p e same r d =
+    d ∙ ap (exactFit entries taps squares lag) e ∙ exact-same entries entries′ taps squares lag (factors lag) (le-refl (factors lag)) same

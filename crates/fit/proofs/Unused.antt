@@ -13,19 +13,17 @@ use Rattle.laws.specs.Scaled.{plusZero}
 use Rattle.laws.proofs.Table.{getD-tabulate}
 use Rattle.float.specs.Steps.{quantAr}
 use Rattle.frame.specs.declared.Shape.{Shape}
-use Rattle.noise.specs.Products.{Pair, Factor, pair}
+use Rattle.noise.specs.Noise.{Pair}
+use Rattle.noise.specs.Products.{Factor}
 use Rattle.positions.specs.Counts.{neighbours, factors}
 use Rattle.solve.specs.Elimination.{value}
 use Rattle.solve.specs.Answer.{refusalOf}
 use Rattle.solve.specs.declared.Solved.{Solved}
 use Rattle.solve.proofs.Values.{Whole, solved-whole}
 use Rattle.fit.specs.Steps.{neighbourOf, withTap, zeros, quantised, solvedFit, coefficientsOf, lumaFit, chromaFit}
-use Rattle.fit.specs.Answer.{firstOf, fitAnswer}
-use Rattle.fit.proofs.EachFit.{luma-case, chroma-case, lumaOf, planeOf, answer-case}
-
--- zero from p on, of the first m
-abbrev pub ZeroFrom : ℕ → ℕ → List ℤ → Type 0
-ZeroFrom p m x = (i : ℕ) → p ≤ i → i < m → getD x i (pos 0) ≡ pos 0
+use Rattle.fit.specs.Answer.{firstOf, lumaOf, planeOf, fitAnswer}
+use Rattle.fit.specs.Words.{ZeroFrom}
+use Rattle.fit.proofs.EachFit.{luma-case, chroma-case, answer-case}
 
 quant-zero : quantAr plusZero ≡ pos 0
 unfolding quantAr mul ofBits toSigned
@@ -51,26 +49,26 @@ solved-unused plane lag row p = go (r .found) refl
         getD-tabulate 25 (λ k. quantAr (value (r .solution .values) k)) i (pos 0) b ∙ ap quantAr (W .padded .unused i o b) ∙ quant-zero
 
 -- the answer of any call
-module _ (s : Shape) (y cb cr dy dcb dcr : List ℕ) (lag : ℕ) where
-  pub luma-count : ZeroFrom (neighbours lag) 24 (fitAnswer s y cb cr dy dcb dcr lag .luma)
+module _ (s : Shape) (y cb cr y-denoised cb-denoised cr-denoised : List ℕ) (lag : ℕ) where
+  pub luma-count : ZeroFrom (neighbours lag) 24 (fitAnswer s y cb cr y-denoised cb-denoised cr-denoised lag .luma)
   unfolding firstOf
   luma-count =
-      answer-case (λ f. ZeroFrom (neighbours lag) 24 (f .luma)) (λ n i a b. getD-replicate 24 i (pos 0) (pos 0) b) s y cb cr dy dcb dcr lag
+      answer-case (λ f. ZeroFrom (neighbours lag) 24 (f .luma)) (λ n i a b. getD-replicate 24 i (pos 0) (pos 0) b) s y cb cr y-denoised cb-denoised cr-denoised lag
       (λ i a b. getD-tabulate 24 (λ k. getD (lumaFit plane lag) k (pos 0)) i (pos 0) b ∙ unused i a (omega arith))
     where
       plane : Pair
-      plane = pair y dy (s .width) (s .height)
+      plane = lumaOf s y y-denoised .plane
 
       unused : ZeroFrom (neighbours lag) 25 (lumaFit plane lag)
       unused = luma-case (ZeroFrom (neighbours lag) 25) (zeros-zero (neighbours lag) 25 (lit≤ tt)) plane lag (solved-unused plane lag (neighbourOf plane lag) (neighbours lag))
 
-  chroma-unused : (c dc : List ℕ) → ZeroFrom (factors lag) 25 (chromaFit (lumaOf s y dy) (planeOf s c dc) lag)
-  chroma-unused c dc =
-      chroma-case (ZeroFrom (factors lag) 25) (zeros-zero (factors lag) 25 (lit≤ tt)) (lumaOf s y dy) (planeOf s c dc) lag
-      (solved-unused (planeOf s c dc) lag (withTap (lumaOf s y dy) (planeOf s c dc) lag) (factors lag))
+  chroma-unused : (source denoised : List ℕ) → ZeroFrom (factors lag) 25 (chromaFit (lumaOf s y y-denoised) (planeOf s source denoised) lag)
+  chroma-unused source denoised =
+      chroma-case (ZeroFrom (factors lag) 25) (zeros-zero (factors lag) 25 (lit≤ tt)) (lumaOf s y y-denoised) (planeOf s source denoised) lag
+      (solved-unused (planeOf s source denoised) lag (withTap (lumaOf s y y-denoised) (planeOf s source denoised) lag) (factors lag))
 
-  pub cb-count : ZeroFrom (factors lag) 25 (fitAnswer s y cb cr dy dcb dcr lag .cb)
-  cb-count = answer-case (λ f. ZeroFrom (factors lag) 25 (f .cb)) (λ n. zeros-zero (factors lag) 25 (lit≤ tt)) s y cb cr dy dcb dcr lag (chroma-unused cb dcb)
+  pub cb-count : ZeroFrom (factors lag) 25 (fitAnswer s y cb cr y-denoised cb-denoised cr-denoised lag .cb)
+  cb-count = answer-case (λ f. ZeroFrom (factors lag) 25 (f .cb)) (λ n. zeros-zero (factors lag) 25 (lit≤ tt)) s y cb cr y-denoised cb-denoised cr-denoised lag (chroma-unused cb cb-denoised)
 
-  pub cr-count : ZeroFrom (factors lag) 25 (fitAnswer s y cb cr dy dcb dcr lag .cr)
-  cr-count = answer-case (λ f. ZeroFrom (factors lag) 25 (f .cr)) (λ n. zeros-zero (factors lag) 25 (lit≤ tt)) s y cb cr dy dcb dcr lag (chroma-unused cr dcr)
+  pub cr-count : ZeroFrom (factors lag) 25 (fitAnswer s y cb cr y-denoised cb-denoised cr-denoised lag .cr)
+  cr-count = answer-case (λ f. ZeroFrom (factors lag) 25 (f .cr)) (λ n. zeros-zero (factors lag) 25 (lit≤ tt)) s y cb cr y-denoised cb-denoised cr-denoised lag (chroma-unused cr cr-denoised)

@@ -6,12 +6,13 @@ use lib.Dec.{eqb}
 use lib.IntN.{ℤ, pos, natAbs}
 use lib.ListN.{getD, replicate}
 use Rattle.laws.specs.Table.{tabulate}
-use Rattle.frame.specs.Size.{chromaWidth, chromaHeight}
 use Rattle.frame.specs.Questions.{accepted}
 use Rattle.frame.specs.Calls.{fitRefusal}
+use Rattle.frame.specs.Planes.{geometryOf}
 use Rattle.frame.specs.declared.Shape.{Shape}
-use Rattle.noise.specs.Quarters.{luma}
-use Rattle.noise.specs.Products.{pair}
+use Rattle.noise.specs.Noise.{Pair}
+use Rattle.noise.specs.Average.{Luma, lumaSeen}
+use Rattle.noise.specs.Seen.{seen}
 use Rattle.positions.specs.Counts.{neighbours}
 use Rattle.fit.specs.Steps.{lumaFit, chromaFit}
 use Rattle.fit.specs.declared.Fit.{Fit}
@@ -29,24 +30,30 @@ firstOf x = tabulate 24 (λ i. getD x i (pos 0))
 abbrev pub unfit : ℕ → Fit
 unfit n = record { refusal = n; found = false; count = 0; luma = replicate 24 (pos 0); cb = replicate 25 (pos 0); cr = replicate 25 (pos 0) }
 
--- an accepted call's
-unfoldable pub fitOf : Shape → List ℕ → List ℕ → List ℕ → List ℕ → List ℕ → List ℕ → ℕ → Fit
-fitOf s y cb cr dy dcb dcr lag =
-    let l = luma y dy (s .width) (s .height) (s .format) in
-    let w = chromaWidth (s .format) (s .width) in
-    let h = chromaHeight (s .format) (s .height) in
-    let x = firstOf (lumaFit (pair y dy (s .width) (s .height)) lag) in
-    cond (allZero x (neighbours lag)) (unfit 0)
-    (record {
+-- a fit of a luma plane and two chroma planes
+abbrev pub foundOf : Luma → Pair → Pair → ℕ → Fit
+foundOf luma cb cr lag =
+    record {
       refusal = 0;
       found = true;
       count = neighbours lag;
-      luma = x;
-      cb = chromaFit l (pair cb dcb w h) lag;
-      cr = chromaFit l (pair cr dcr w h) lag;
-    })
+      luma = firstOf (lumaFit (luma .plane) lag);
+      cb = chromaFit luma cb lag;
+      cr = chromaFit luma cr lag;
+    }
+
+-- what is found: no fit where luma's coefficients are all 0
+unfoldable pub fitOf : Luma → Pair → Pair → ℕ → Fit
+fitOf luma cb cr lag = cond (allZero (firstOf (lumaFit (luma .plane) lag)) (neighbours lag)) (unfit 0) (foundOf luma cb cr lag)
+
+-- the luma of a frame, and a chroma plane, as a call sees them
+abbrev pub lumaOf : Shape → List ℕ → List ℕ → Luma
+lumaOf s source denoised = lumaSeen (geometryOf s) source denoised
+
+abbrev pub planeOf : Shape → List ℕ → List ℕ → Pair
+planeOf s source denoised = seen (geometryOf s .chroma) source denoised
 
 unfoldable pub fitAnswer : Shape → List ℕ → List ℕ → List ℕ → List ℕ → List ℕ → List ℕ → ℕ → Fit
-fitAnswer s y cb cr dy dcb dcr lag =
-    let n = fitRefusal s y cb cr dy dcb dcr lag in
-    accepted n (fitOf s y cb cr dy dcb dcr lag) (unfit n)
+fitAnswer s y cb cr y-denoised cb-denoised cr-denoised lag =
+    let n = fitRefusal s y cb cr y-denoised cb-denoised cr-denoised lag in
+    accepted n (fitOf (lumaOf s y y-denoised) (planeOf s cb cb-denoised) (planeOf s cr cr-denoised) lag) (unfit n)

@@ -11,7 +11,8 @@ use Rattle.laws.specs.Scaled.{plusZero}
 use Rattle.laws.specs.Table.{tabulate}
 use Rattle.float.specs.Steps.{quantAr}
 use Rattle.noise.specs.Average.{Luma}
-use Rattle.noise.specs.Products.{Pair, Factor, noiseFrom, average, own}
+use Rattle.noise.specs.Noise.{Pair}
+use Rattle.noise.specs.Products.{Factor, noiseFrom, average, own}
 use Rattle.noise.specs.Steps.{windowF}
 use Rattle.positions.specs.Counts.{neighbours, factors}
 use Rattle.positions.specs.Positions.{positions}
@@ -50,6 +51,13 @@ valueOf sum p i = cond (leb p i) plusZero (sum i)
 
 unfoldable pub rightOf : (ℕ → Float) → ℕ → Row
 rightOf sum p = tabulate 25 (valueOf sum p)
+
+-- the Rust's own `ata`, once its lower half is copied, and `atb`: p rows of p, and p values; a theorem gives both the same solution
+abbrev pub ataOf : (ℕ → ℕ → Float) → ℕ → Matrix
+ataOf sum p = tabulate p (λ i. tabulate p (λ j. cond (leb i j) (sum i j) (sum j i)))
+
+abbrev pub atbOf : (ℕ → Float) → ℕ → Row
+atbOf sum p = tabulate p sum
 
 -- `solve_normal(ata, atb)`
 unfoldable pub solvedFit : Pair → ℕ → (ℕ → Factor) → ℕ → Solved

@@ -1,43 +1,36 @@
--- "The exact sum adds the same products as whole numbers, or in sixteenths with luma averages": the equations from exact sums, each turned into an f64 once. The n neighbours come first, then the sample itself; the luma average is the last factor of chroma.
+-- "The exact sum adds the same products as whole numbers, or in sixteenths with luma averages": the equations from exact sums, each turned into an f64 once. The neighbours come first, then the sample itself; the luma average is the last factor of chroma.
 use mathlib.Core.Path.{_≡_}
 use mathlib.Core.Bool.{cond}
 use mathlib.Core.List.{List}
-use Prim.Native.Nat.{ℕ, _+_, _*_, _≤_}
+use Prim.Native.Nat.{ℕ, _≤_}
 use lib.Dec.{ltb}
 use lib.IntN.{ℤ}
 use lib.ListN.{length}
-use lib.Ieee.{Float, binary64, div, ofInt, ofBits}
-use Rattle.noise.specs.Lines.{at}
-use Rattle.noise.specs.Grids.{noiseAt}
-use Rattle.positions.specs.Counts.{factors}
-use Rattle.normal.specs.Normal.{entry, square}
+use lib.Ieee.{Float, binary64, div, ofInt}
+use Rattle.laws.specs.Constants.{four}
+use Rattle.positions.specs.Counts.{neighbours, factors}
+use Rattle.normal.specs.Layout.{sumsSize}
 use Rattle.solve.specs.Answer.{solvedOf}
 use Rattle.fit.specs.Steps.{matrixOf, rightOf, coefficientsOf}
 
--- 4.0
-abbrev pub four : Float
-four = ofBits binary64 0x4010_0000_0000_0000
+-- room for the sums of a lag's neighbours and the sample, and for each of them with the luma average
+pub record Room (sums taps : List ℤ) (lag : ℕ) : Type 0 where
+  pub few : lag ≤ 3
+  pub summed : length sums ≡ sumsSize lag
+  pub tapped : length taps ≡ factors lag
 
--- room for the sums of n neighbours and the sample, and for each of them with the luma average
-pub record Room (sums taps : List ℤ) (n : ℕ) : Type 0 where
-  pub few : n ≤ 24
-  pub squared : length sums ≡ (n + 1) * (n + 1)
-  pub tapped : length taps ≡ n + 1
-
--- factors i and j, i not after j; `squares` is the sum of squared averages, as an f64
-unfoldable pub sumAt : List ℤ → List ℤ → Float → ℕ → ℕ → ℕ → Float
-sumAt sums taps squares n i j =
-    cond (ltb j n) (ofInt binary64 (at sums (i * (n + 1) + j)))
-    (cond (ltb i n) (div binary64 (ofInt binary64 (at taps i)) four) squares)
+-- factors i and j, i not after j: whole numbers, quarters with one average, and `squares` with two
+unfoldable pub cellSum : (ℕ → ℕ → ℤ) → (ℕ → ℤ) → Float → ℕ → ℕ → ℕ → Float
+cellSum entries taps squares lag i j =
+    cond (ltb j (neighbours lag)) (ofInt binary64 (entries i j))
+    (cond (ltb i (neighbours lag)) (div binary64 (ofInt binary64 (taps i)) four) squares)
 
 -- factor i and the sample
-unfoldable pub rightAt : List ℤ → List ℤ → ℕ → ℕ → Float
-rightAt sums taps n i = cond (ltb i n) (ofInt binary64 (at sums (i * (n + 1) + n))) (div binary64 (ofInt binary64 (at taps n)) four)
+unfoldable pub rightSum : (ℕ → ℕ → ℤ) → (ℕ → ℤ) → ℕ → ℕ → Float
+rightSum entries taps lag i =
+    cond (ltb i (neighbours lag)) (ofInt binary64 (entries i (neighbours lag))) (div binary64 (ofInt binary64 (taps (neighbours lag))) four)
 
 -- p factors: the coefficients
-unfoldable pub exactFit : List ℤ → List ℤ → Float → ℕ → ℕ → List ℤ
-exactFit sums taps squares n p = coefficientsOf (solvedOf (matrixOf (sumAt sums taps squares n) p) (rightOf (rightAt sums taps n) p) p)
-
--- the exact sums of a plane w wide and h high
-abbrev pub planeSums : List ℕ → List ℕ → ℕ → ℕ → ℕ → List ℤ
-planeSums source denoised w h lag = square (factors lag) (entry (noiseAt source denoised (record { start = 0; step = w; stride = 1 })) w h lag)
+unfoldable pub exactFit : (ℕ → ℕ → ℤ) → (ℕ → ℤ) → Float → ℕ → ℕ → List ℤ
+exactFit entries taps squares lag p =
+    coefficientsOf (solvedOf (matrixOf (cellSum entries taps squares lag) p) (rightOf (rightSum entries taps lag) p) p)

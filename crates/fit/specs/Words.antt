@@ -2,23 +2,24 @@
 -- "Chroma of monochrome, of too small a plane or without a solution is all zeros." The cases, in these words.
 use mathlib.Core.Path.{_≡_}
 use mathlib.Core.Bool.{false}
+use mathlib.Core.List.{List}
 use Prim.Native.Nat.{ℕ, _*_, _≤_, _<_}
 use lib.IntN.{ℤ, pos}
+use lib.ListN.{getD}
 use Rattle.float.specs.Steps.{quantAr}
-use Rattle.noise.specs.Noise.{noise, place}
+use Rattle.float.specs.Coefficient.{Written}
+use Rattle.noise.specs.Noise.{Pair, noiseOf}
 use Rattle.noise.specs.Average.{Luma}
-use Rattle.noise.specs.Products.{Pair}
 use Rattle.positions.specs.Counts.{neighbours, factors}
 use Rattle.normal.specs.Normal.{windowSum}
 use Rattle.solve.specs.Elimination.{value}
 use Rattle.solve.specs.declared.Solved.{Solved}
 use Rattle.fit.specs.Steps.{neighbourOf, withTap, solvedFit}
+use Rattle.fit.specs.declared.Fit.{Fit}
 
 -- the exact sum of squares over the target samples
 abbrev pub energy : Pair → ℕ → ℤ
-energy plane lag =
-    windowSum (plane .width) (plane .height) lag
-    (λ r c. noise (plane .source) (plane .denoised) (place (plane .width) r c)) (λ r c. noise (plane .source) (plane .denoised) (place (plane .width) r c))
+energy plane lag = windowSum (plane .width) (plane .height) lag (noiseOf plane) (noiseOf plane)
 
 -- what the solver says of luma, and of a chroma plane
 abbrev pub lumaSolved : Pair → ℕ → Solved
@@ -35,8 +36,28 @@ pub data NoFit (plane : Pair) (lag : ℕ) : Type 0 where
   unsolved : lumaSolved plane lag .found ≡ false → NoFit plane lag
   white : ((i : ℕ) → i < neighbours lag → quantAr (value (lumaSolved plane lag .solution .values) i) ≡ pos 0) → NoFit plane lag
 
-pub data NoChroma (luma : Luma) (plane : Pair) (lag : ℕ) : Type 0 where
-  monochrome : luma .format ≡ 0 → NoChroma luma plane lag
-  narrow : plane .width ≤ 2 * lag → NoChroma luma plane lag
-  short : plane .height ≤ lag → NoChroma luma plane lag
-  unsolved : chromaSolved luma plane lag .found ≡ false → NoChroma luma plane lag
+pub data NoChroma (format : ℕ) (luma : Luma) (plane : Pair) (lag : ℕ) : Type 0 where
+  monochrome : format ≡ 0 → NoChroma format luma plane lag
+  narrow : plane .width ≤ 2 * lag → NoChroma format luma plane lag
+  short : plane .height ≤ lag → NoChroma format luma plane lag
+  unsolved : chromaSolved luma plane lag .found ≡ false → NoChroma format luma plane lag
+
+-- "2×lag×(lag+1) of them", "Chroma has one coefficient more": zero from p on, of the first m
+abbrev pub ZeroFrom : ℕ → ℕ → List ℤ → Type 0
+ZeroFrom p m x = (i : ℕ) → p ≤ i → i < m → getD x i (pos 0) ≡ pos 0
+
+-- 5.9.30: every coefficient of a list can be written, and so those of an answer
+abbrev pub AllWritten : List ℤ → Type 0
+AllWritten x = (i : ℕ) → Written (getD x i (pos 0))
+
+pub record FitWritten (f : Fit) : Type 0 where
+  pub luma : AllWritten (f .luma)
+  pub cb : AllWritten (f .cb)
+  pub cr : AllWritten (f .cr)
+
+-- "every luma and Cb result is the same": every result but Cr's
+pub record SameButCr (f g : Fit) : Type 0 where
+  pub found : f .found ≡ g .found
+  pub count : f .count ≡ g .count
+  pub luma : f .luma ≡ g .luma
+  pub cb : f .cb ≡ g .cb

@@ -1,16 +1,21 @@
-// The normal equations in f64, from exact sums of products of n neighbours, the sample and the luma average.
+// The normal equations in f64, from exact sums of products of a lag's neighbours, the sample and the luma average.
 ghost use mathlib.Core.Path.{_≡_};
-ghost use Prim.Native.Nat.{_+_, _≤_};
+ghost use Prim.Native.Nat.{_≤_};
+ghost use Rattle.noise.specs.Lines.{at};
+ghost use Rattle.positions.specs.Counts.{neighbours, factors};
+ghost use Rattle.normal.specs.Layout.{sumAt};
 ghost use Rattle.fit.specs.Steps.{cellOf, rowOf, matrixOf, valueOf, rightOf};
-ghost use Rattle.fit.specs.Sums.{Room, sumAt, rightAt};
+ghost use Rattle.fit.specs.Sums.{Room, cellSum, rightSum};
+use crate::counts::neighbour_count;
 
 // Σ factor i × factor j, from a whole number, or from quarters with one average; `squares` with two.
-fn sum_at(sums: &[i64], taps: &[i64], squares: f64, n: usize, i: usize, j: usize) -> f64
-    requires { ⌜ Room (now sums) (now taps) n × (i ≤ n) × (j ≤ n) ⌝ }
-    ensures { λ r. ⌜ r ≡ sumAt (now (sums .entry)) (now (taps .entry)) squares n i j ⌝ }
+fn cell_sum(sums: &[i64], taps: &[i64], squares: f64, lag: usize, i: usize, j: usize) -> f64
+    requires { ⌜ Room (now sums) (now taps) lag × (i ≤ neighbours lag) × (j ≤ neighbours lag) ⌝ }
+    ensures { λ r. ⌜ r ≡ cellSum (sumAt (now (sums .entry)) lag) (at (now (taps .entry))) squares lag i j ⌝ }
 {
+    let n = neighbour_count(lag);
     if j < n {
-        let whole = sums[i * (n + 1usize) + j];
+        let whole = normal::neighbour_sum(sums, lag, i, j);
         return std::num::nearest_i64_to_f64(whole);
     }
     if i < n {
@@ -21,12 +26,13 @@ fn sum_at(sums: &[i64], taps: &[i64], squares: f64, n: usize, i: usize, j: usize
 }
 
 // Σ factor i × sample.
-fn right_at(sums: &[i64], taps: &[i64], n: usize, i: usize) -> f64
-    requires { ⌜ Room (now sums) (now taps) n × (i ≤ n) ⌝ }
-    ensures { λ r. ⌜ r ≡ rightAt (now (sums .entry)) (now (taps .entry)) n i ⌝ }
+fn right_sum(sums: &[i64], taps: &[i64], lag: usize, i: usize) -> f64
+    requires { ⌜ Room (now sums) (now taps) lag × (i ≤ neighbours lag) ⌝ }
+    ensures { λ r. ⌜ r ≡ rightSum (sumAt (now (sums .entry)) lag) (at (now (taps .entry))) lag i ⌝ }
 {
+    let n = neighbour_count(lag);
     if i < n {
-        let whole = sums[i * (n + 1usize) + n];
+        let whole = normal::neighbour_sum(sums, lag, i, n);
         return std::num::nearest_i64_to_f64(whole);
     }
     let quarters = taps[n];
@@ -34,9 +40,9 @@ fn right_at(sums: &[i64], taps: &[i64], n: usize, i: usize) -> f64
 }
 
 // Row i, column j of the matrix, p of which are used; the lower half is the upper's.
-fn cell(sums: &[i64], taps: &[i64], squares: f64, n: usize, p: usize, i: usize, j: usize) -> f64
-    requires { ⌜ Room (now sums) (now taps) n × (p ≤ n + 1) ⌝ }
-    ensures { λ r. ⌜ r ≡ cellOf (sumAt (now (sums .entry)) (now (taps .entry)) squares n) p i j ⌝ }
+fn cell(sums: &[i64], taps: &[i64], squares: f64, lag: usize, p: usize, i: usize, j: usize) -> f64
+    requires { ⌜ Room (now sums) (now taps) lag × (p ≤ factors lag) ⌝ }
+    ensures { λ r. ⌜ r ≡ cellOf (cellSum (sumAt (now (sums .entry)) lag) (at (now (taps .entry))) squares lag) p i j ⌝ }
 {
     if p <= i {
         return 0.0;
@@ -45,51 +51,51 @@ fn cell(sums: &[i64], taps: &[i64], squares: f64, n: usize, p: usize, i: usize, 
         return 0.0;
     }
     if i <= j {
-        return sum_at(sums, taps, squares, n, i, j);
+        return cell_sum(sums, taps, squares, lag, i, j);
     }
-    sum_at(sums, taps, squares, n, j, i)
+    cell_sum(sums, taps, squares, lag, j, i)
 }
 
-fn matrix_row(sums: &[i64], taps: &[i64], squares: f64, n: usize, p: usize, i: usize) -> [f64; 25]
-    requires { ⌜ Room (now sums) (now taps) n × (p ≤ n + 1) ⌝ }
-    ensures { λ r. ⌜ r ≡ rowOf (sumAt (now (sums .entry)) (now (taps .entry)) squares n) p i ⌝ }
+fn matrix_row(sums: &[i64], taps: &[i64], squares: f64, lag: usize, p: usize, i: usize) -> [f64; 25]
+    requires { ⌜ Room (now sums) (now taps) lag × (p ≤ factors lag) ⌝ }
+    ensures { λ r. ⌜ r ≡ rowOf (cellSum (sumAt (now (sums .entry)) lag) (at (now (taps .entry))) squares lag) p i ⌝ }
 {
-    let mut row = [0.0f64; 25];
-    for j in 0..25usize {
-        row[j] = cell(sums, taps, squares, n, p, i, j);
+    let mut row = [0.0; 25];
+    for j in 0..25 {
+        row[j] = cell(sums, taps, squares, lag, p, i, j);
     }
     row
 }
 
-pub fn matrix(sums: &[i64], taps: &[i64], squares: f64, n: usize, p: usize) -> [[f64; 25]; 25]
-    requires { ⌜ Room (now sums) (now taps) n × (p ≤ n + 1) ⌝ }
-    ensures { λ r. ⌜ r ≡ matrixOf (sumAt (now (sums .entry)) (now (taps .entry)) squares n) p ⌝ }
+pub fn matrix(sums: &[i64], taps: &[i64], squares: f64, lag: usize, p: usize) -> [[f64; 25]; 25]
+    requires { ⌜ Room (now sums) (now taps) lag × (p ≤ factors lag) ⌝ }
+    ensures { λ r. ⌜ r ≡ matrixOf (cellSum (sumAt (now (sums .entry)) lag) (at (now (taps .entry))) squares lag) p ⌝ }
 {
-    let mut m = [[0.0f64; 25]; 25];
-    for i in 0..25usize {
-        m[i] = matrix_row(sums, taps, squares, n, p, i);
+    let mut m = [[0.0; 25]; 25];
+    for i in 0..25 {
+        m[i] = matrix_row(sums, taps, squares, lag, p, i);
     }
     m
 }
 
 // Value i of the right side, p of which are used.
-fn right_value(sums: &[i64], taps: &[i64], n: usize, p: usize, i: usize) -> f64
-    requires { ⌜ Room (now sums) (now taps) n × (p ≤ n + 1) ⌝ }
-    ensures { λ r. ⌜ r ≡ valueOf (rightAt (now (sums .entry)) (now (taps .entry)) n) p i ⌝ }
+fn right_value(sums: &[i64], taps: &[i64], lag: usize, p: usize, i: usize) -> f64
+    requires { ⌜ Room (now sums) (now taps) lag × (p ≤ factors lag) ⌝ }
+    ensures { λ r. ⌜ r ≡ valueOf (rightSum (sumAt (now (sums .entry)) lag) (at (now (taps .entry))) lag) p i ⌝ }
 {
     if p <= i {
         return 0.0;
     }
-    right_at(sums, taps, n, i)
+    right_sum(sums, taps, lag, i)
 }
 
-pub fn right_side(sums: &[i64], taps: &[i64], n: usize, p: usize) -> [f64; 25]
-    requires { ⌜ Room (now sums) (now taps) n × (p ≤ n + 1) ⌝ }
-    ensures { λ r. ⌜ r ≡ rightOf (rightAt (now (sums .entry)) (now (taps .entry)) n) p ⌝ }
+pub fn right_side(sums: &[i64], taps: &[i64], lag: usize, p: usize) -> [f64; 25]
+    requires { ⌜ Room (now sums) (now taps) lag × (p ≤ factors lag) ⌝ }
+    ensures { λ r. ⌜ r ≡ rightOf (rightSum (sumAt (now (sums .entry)) lag) (at (now (taps .entry))) lag) p ⌝ }
 {
-    let mut right = [0.0f64; 25];
-    for i in 0..25usize {
-        right[i] = right_value(sums, taps, n, p, i);
+    let mut right = [0.0; 25];
+    for i in 0..25 {
+        right[i] = right_value(sums, taps, lag, p, i);
     }
     right
 }

@@ -1,4 +1,5 @@
 // The auto-regressive coefficients of a frame's noise, by least squares.
+mod counts; // of neighbours and of sums
 mod equations; // the normal equations in f64, from exact sums
 mod coefficients; // solved and quantised
 mod planes; // the fit of a plane
@@ -6,6 +7,7 @@ mod planes; // the fit of a plane
 ghost use mathlib.Core.Path.{_≡_};
 ghost use Prim.Native.Nat.{_≤_};
 ghost use Rattle.fit.specs.Answer.{allZero, firstOf, unfit, fitAnswer};
+use counts::neighbour_count;
 use frame::Shape;
 use planes::chroma_fit;
 use planes::luma_fit;
@@ -25,8 +27,8 @@ pub struct Fit {
 fn first(x: [i32; 25]) -> [i32; 24]
     ensures { λ r. ⌜ r ≡ firstOf x ⌝ }
 {
-    let mut out = [0i32; 24];
-    for i in 0..24usize {
+    let mut out = [0; 24];
+    for i in 0..24 {
         out[i] = x[i];
     }
     out
@@ -52,10 +54,10 @@ fn unfitted(refusal: u32) -> Fit
     Fit {
         refusal,
         found: false,
-        count: 0usize,
-        luma: [0i32; 24],
-        cb: [0i32; 25],
-        cr: [0i32; 25],
+        count: 0,
+        luma: [0; 24],
+        cb: [0; 25],
+        cr: [0; 25],
     }
 }
 
@@ -65,38 +67,24 @@ pub fn fit_ar_lag(
     y: &[u16],
     cb: &[u16],
     cr: &[u16],
-    dy: &[u16],
-    dcb: &[u16],
-    dcr: &[u16],
+    yden: &[u16],
+    cbden: &[u16],
+    crden: &[u16],
     lag: usize,
 ) -> Fit
-    ensures { λ r. ⌜ r ≡ fitAnswer s (now (y .entry)) (now (cb .entry)) (now (cr .entry)) (now (dy .entry)) (now (dcb .entry)) (now (dcr .entry)) lag ⌝ }
+    ensures { λ r. ⌜ r ≡ fitAnswer s (now (y .entry)) (now (cb .entry)) (now (cr .entry)) (now (yden .entry)) (now (cbden .entry)) (now (crden .entry)) lag ⌝ }
 {
-    let refused = frame::fit_refusal(s, y, cb, cr, dy, dcb, dcr, lag);
+    let refused = frame::fit_refusal(s, y, cb, cr, yden, cbden, crden, lag);
     if refused != 0 {
         return unfitted(refused);
     }
-    let count = 2usize * lag * (lag + 1usize);
-    let luma = first(luma_fit(y, dy, s.width, s.height, lag));
+    let geometry = s.geometry();
+    let count = neighbour_count(lag);
+    let luma = first(luma_fit(y, yden, geometry.luma, lag));
     if all_zero(luma, count) {
         return unfitted(0);
     }
-    let cw = s.chroma_width();
-    let ch = s.chroma_height();
-    let chroma = chroma_fit(
-        y,
-        dy,
-        s.width,
-        s.height,
-        s.format,
-        cb,
-        dcb,
-        cr,
-        dcr,
-        cw,
-        ch,
-        lag,
-    );
+    let chroma = chroma_fit(y, yden, cb, cbden, cr, crden, geometry, lag);
     let blue = chroma.cb;
     let red = chroma.cr;
     Fit {

@@ -11,10 +11,10 @@ returns-2 : tie.Need-returns-2
 returns-2 c = column-unused _ _ _ _ (c .before .if1 .left) (c .if2 .taken)
 
 returns-3 : tie.Need-returns-3
-returns-3 c = upper _ _ _ _ (c .before .before .before .if1 .left) (c .before .before .if2 .left) (c .before .if3 .taken) (c .sum-at .ensures)
+returns-3 c = upper _ _ _ _ (c .before .before .before .if1 .left) (c .before .before .if2 .left) (c .before .if3 .taken) (c .cell-sum .ensures)
 
 returns-4 : tie.Need-returns-4
-returns-4 c = lower _ _ _ _ (c .before .before .before .if1 .left) (c .before .before .if2 .left) (c .before .if3 .left) (c .sum-at2 .ensures)
+returns-4 c = lower _ _ _ _ (c .before .before .before .if1 .left) (c .before .before .if2 .left) (c .before .if3 .left) (c .cell-sum2 .ensures)
 
 pub cell-spec : {M : Type 1} → statement M
 cell-spec =

@@ -3,15 +3,17 @@ use Prim.Native.Nat.{_-_}
 use borrow.Author.Needs.{needs}
 use Rattle.laws.proofs.Fill.{Filled, fill-starts, fill-turn, fill-ends}
 use Rattle.fit.specs.Steps.{rowOf, matrixOf}
-use Rattle.fit.specs.Sums.{sumAt}
+use Rattle.noise.specs.Lines.{at}
+use Rattle.normal.specs.Layout.{sumAt}
+use Rattle.fit.specs.Sums.{cellSum}
 use Rattle.fit.proofs.equations.matrix.Statement.{statement}
 use Rattle.fit.proofs.equations.matrix.Tie as tie
 
 abbrev Inv-loop : tie.InvT-loop
-Inv-loop sums taps squares n p m₀ i₀ m i = Filled (rowOf (sumAt sums taps squares n) p) m₀ m i
+Inv-loop sums taps squares lag p m₀ i₀ m i = Filled (rowOf (cellSum (sumAt sums lag) (at taps) squares lag) p) m₀ m i
 
 abbrev μ-loop : tie.MeasureT-loop
-μ-loop sums taps squares n p m₀ i₀ m i = 25 - i
+μ-loop sums taps squares lag p m₀ i₀ m i = 25 - i
 
 loop-holds : tie.Need-loop-holds Inv-loop μ-loop
 loop-holds c = fill-starts _ _

@@ -3,15 +3,17 @@ use Prim.Native.Nat.{_-_}
 use borrow.Author.Needs.{needs}
 use Rattle.laws.proofs.Fill.{Filled, fill-starts, fill-turn, fill-ends}
 use Rattle.fit.specs.Steps.{cellOf, rowOf}
-use Rattle.fit.specs.Sums.{sumAt}
+use Rattle.noise.specs.Lines.{at}
+use Rattle.normal.specs.Layout.{sumAt}
+use Rattle.fit.specs.Sums.{cellSum}
 use Rattle.fit.proofs.equations.matrix_row.Statement.{statement}
 use Rattle.fit.proofs.equations.matrix_row.Tie as tie
 
 abbrev Inv-loop : tie.InvT-loop
-Inv-loop sums taps squares n p i row₀ j₀ row j = Filled (cellOf (sumAt sums taps squares n) p i) row₀ row j
+Inv-loop sums taps squares lag p i row₀ j₀ row j = Filled (cellOf (cellSum (sumAt sums lag) (at taps) squares lag) p i) row₀ row j
 
 abbrev μ-loop : tie.MeasureT-loop
-μ-loop sums taps squares n p i row₀ j₀ row j = 25 - j
+μ-loop sums taps squares lag p i row₀ j₀ row j = 25 - j
 
 loop-holds : tie.Need-loop-holds Inv-loop μ-loop
 loop-holds c = fill-starts _ _

@@ -3,15 +3,17 @@ use Prim.Native.Nat.{_-_}
 use borrow.Author.Needs.{needs}
 use Rattle.laws.proofs.Fill.{Filled, fill-starts, fill-turn, fill-ends}
 use Rattle.fit.specs.Steps.{valueOf, rightOf}
-use Rattle.fit.specs.Sums.{rightAt}
+use Rattle.noise.specs.Lines.{at}
+use Rattle.normal.specs.Layout.{sumAt}
+use Rattle.fit.specs.Sums.{rightSum}
 use Rattle.fit.proofs.equations.right_side.Statement.{statement}
 use Rattle.fit.proofs.equations.right_side.Tie as tie
 
 abbrev Inv-loop : tie.InvT-loop
-Inv-loop sums taps n p right₀ i₀ right i = Filled (valueOf (rightAt sums taps n) p) right₀ right i
+Inv-loop sums taps lag p right₀ i₀ right i = Filled (valueOf (rightSum (sumAt sums lag) (at taps) lag) p) right₀ right i
 
 abbrev μ-loop : tie.MeasureT-loop
-μ-loop sums taps n p right₀ i₀ right i = 25 - i
+μ-loop sums taps lag p right₀ i₀ right i = 25 - i
 
 loop-holds : tie.Need-loop-holds Inv-loop μ-loop
 loop-holds c = fill-starts _ _

@@ -1,54 +1,50 @@
 -- `fit::planes::chroma_fit` meets its contract: the tests, and room for the sums. Assumes nothing.
-use mathlib.Core.Path.{sym}
-use native.Mathlib.Nat.{le-trans}
+use mathlib.Core.Path.{sym, _∙_}
 use native.Mathlib.Omega.{arith}
 use lib.Seq.{length-take-le}
-use Rattle.fit.proofs.Rooms.{factors-few, squared-few}
-use Rattle.fit.proofs.ChromaSteps.{narrow, short}
 use borrow.Author.Needs.{needs}
+use Rattle.fit.proofs.Rooms.{factors-few, sums-few}
+use Rattle.fit.proofs.ChromaSteps.{narrow, short}
 use Rattle.fit.proofs.planes.chroma_fit.Statement.{statement}
 use Rattle.fit.proofs.planes.chroma_fit.Tie as tie
 
 returns : tie.Need-returns
-returns c = (narrow _ _ _ _ _ _ (c .if1 .taken), narrow _ _ _ _ _ _ (c .if1 .taken))
+returns c = (narrow _ _ _ (c .if1 .taken), narrow _ _ _ (c .if1 .taken))
 
 returns-2 : tie.Need-returns-2
-returns-2 c = (short _ _ _ _ _ _ (c .if2 .taken), short _ _ _ _ _ _ (c .if2 .taken))
-
-mul-q-2 : tie.Need-mul-q-2
-mul-q-2 c = omega (arith, factors-few (c .before .before .before .before .before .before .before .before .before .before .before .pre .2))
-
-add-q-2 : tie.Need-add-q-2
-add-q-2 c = omega (arith, factors-few (c .before .before .before .before .before .before .before .before .before .before .before .pre .2))
-
-mul-size : tie.Need-mul-size
-mul-size c = omega (arith, squared-few (c .before .before .before .before .before .before .before .before .before .before .before .pre .2))
+returns-2 c = (short _ _ _ (c .if2 .taken), short _ _ _ (c .if2 .taken))
 
 array-borrow-prefix-cbtaps : tie.Need-array-borrow-prefix-cbtaps
-array-borrow-prefix-cbtaps c = le-trans (factors-few (c .before .before .before .before .before .before .before .before .before .before .before .pre .2)) (search needs)
+array-borrow-prefix-cbtaps c = omega (arith, factors-few (c .before .before .before .before .before .before .before .before .before .before .before .before .before .before .before .before .pre .1), c .before .neighbour-count .ensures)
 
 slice-aggregate-chroma-coefficients : tie.Need-slice-aggregate-chroma-coefficients
-slice-aggregate-chroma-coefficients c = sym (length-take-le _ (c .before .before .before .blank-taps .result) (array-borrow-prefix-cbtaps (c .before)))
+slice-aggregate-chroma-coefficients c = sym (length-take-le _ (c .before .before .before .before .before .blank-taps .result) (array-borrow-prefix-cbtaps (c .before)))
 
 array-borrow-prefix-crtaps : tie.Need-array-borrow-prefix-crtaps
-array-borrow-prefix-crtaps c = le-trans (factors-few (c .before .before .before .before .before .before .before .before .before .before .before .before .pre .2)) (search needs)
+array-borrow-prefix-crtaps c = omega (arith, factors-few (c .before .before .before .before .before .before .before .before .before .before .before .before .before .before .before .before .before .pre .1), c .before .before .neighbour-count .ensures)
 
 slice-aggregate-chroma-coefficients-2 : tie.Need-slice-aggregate-chroma-coefficients-2
-slice-aggregate-chroma-coefficients-2 c = sym (length-take-le _ (c .before .before .before .blank-taps2 .result) (array-borrow-prefix-crtaps (c .before)))
+slice-aggregate-chroma-coefficients-2 c = sym (length-take-le _ (c .before .before .before .before .before .blank-taps2 .result) (array-borrow-prefix-crtaps (c .before)))
 
 array-borrow-prefix-sums : tie.Need-array-borrow-prefix-sums
-array-borrow-prefix-sums c = le-trans (squared-few (c .before .before .before .before .before .before .before .before .before .before .before .before .before .pre .2)) (search needs)
+array-borrow-prefix-sums c = omega (arith, sums-few (c .before .before .before .before .before .before .before .before .before .before .before .before .before .before .before .before .before .before .pre .1), c .before .before .sums-size .ensures)
 
 slice-aggregate-chroma-coefficients-3 : tie.Need-slice-aggregate-chroma-coefficients-3
-slice-aggregate-chroma-coefficients-3 c = sym (length-take-le _ (c .before .before .before .blank-sums .result) (array-borrow-prefix-sums (c .before)))
+slice-aggregate-chroma-coefficients-3 c = sym (length-take-le _ (c .before .before .before .before .before .blank-sums .result) (array-borrow-prefix-sums (c .before)))
 
 chroma-coefficients-requires : tie.Need-chroma-coefficients-requires
 chroma-coefficients-requires c κs =
-    let k = c .before .before .before .before .before .before .before .before .before .before .before .before .before .before .pre in
-    (k .0, k .1, search needs, search needs, k .2, sym (slice-aggregate-chroma-coefficients (c .before .before)), sym (slice-aggregate-chroma-coefficients-2 (c .before)), sym (slice-aggregate-chroma-coefficients-3 c))
-
-returns-3 : tie.Need-returns-3
-returns-3 c = search needs
+    let k = c .before .before .before .before .before .before .before .before .before .before .before .before .before .before .before .before .before .before .before .pre in
+    let n = c .before .before .before .before .neighbour-count .ensures in
+    record {
+      visible = k .0;
+      few = k .1;
+      wide = search needs;
+      high = search needs;
+      tapped-cb = sym (slice-aggregate-chroma-coefficients (c .before .before)) ∙ omega (arith, n);
+      tapped-cr = sym (slice-aggregate-chroma-coefficients-2 (c .before)) ∙ omega (arith, n);
+      summed = sym (slice-aggregate-chroma-coefficients-3 c) ∙ c .before .before .before .sums-size .ensures;
+    }
 
 pub chroma-fit-spec : {M : Type 1} → statement M
 chroma-fit-spec =
@@ -60,11 +56,9 @@ chroma-fit-spec =
     (λ c κs. search needs)
     (λ c κs. search needs)
     (λ c κs. search needs)
+    (λ c κs. search needs)
     (λ c. search needs)
-    (λ c. search needs)
-    mul-q-2
-    add-q-2
-    mul-size
+    (λ c κs. search needs)
     array-borrow-prefix-cbtaps
     slice-aggregate-chroma-coefficients
     array-borrow-prefix-crtaps
@@ -72,4 +66,4 @@ chroma-fit-spec =
     array-borrow-prefix-sums
     slice-aggregate-chroma-coefficients-3
     chroma-coefficients-requires
-    returns-3)
+    (λ c. search needs))
