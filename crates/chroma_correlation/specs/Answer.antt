@@ -2,23 +2,30 @@
 use mathlib.Core.List.{List}
 use Prim.Native.Nat.{ℕ}
 use lib.IntN.{pos}
-use Rattle.frame.specs.Size.{chromaWidth, chromaHeight}
+use Rattle.frame.specs.Planes.{geometryOf}
 use Rattle.frame.specs.Questions.{accepted}
 use Rattle.frame.specs.Calls.{frameRefusal}
 use Rattle.frame.specs.declared.Shape.{Shape}
-use Rattle.noise.specs.Products.{pair}
-use Rattle.noise.specs.Quarters.{luma}
+use Rattle.frame.specs.declared.view.Geometry.{Geometry}
+use Rattle.noise.specs.Seen.{seen}
+use Rattle.noise.specs.Average.{lumaSeen}
 use Rattle.chroma_correlation.specs.Steps.{corr}
 use Rattle.chroma_correlation.specs.declared.ChromaCorr.{ChromaCorr}
 
-unfoldable pub corrAnswer : Shape → List ℕ → List ℕ → List ℕ → List ℕ → List ℕ → List ℕ → ChromaCorr
-corrAnswer s y cb cr dy dcb dcr =
-    let n = frameRefusal s y cb cr dy dcb dcr in
-    let l = luma y dy (s .width) (s .height) (s .format) in
-    let w = chromaWidth (s .format) (s .width) in
-    let h = chromaHeight (s .format) (s .height) in
+abbrev pub refused : ℕ → ChromaCorr
+refused n = record { refusal = n; cb = pos 0; cr = pos 0 }
+
+-- the correlations of a frame, as a geometry shows it
+abbrev pub correlations : Geometry → List ℕ → List ℕ → List ℕ → List ℕ → List ℕ → List ℕ → ChromaCorr
+correlations g y cb cr y-denoised cb-denoised cr-denoised =
+    let luma = lumaSeen g y y-denoised in
     record {
-      refusal = n;
-      cb = accepted n (corr l (pair cb dcb w h)) (pos 0);
-      cr = accepted n (corr l (pair cr dcr w h)) (pos 0);
+      refusal = 0;
+      cb = corr luma (seen (g .chroma) cb cb-denoised);
+      cr = corr luma (seen (g .chroma) cr cr-denoised);
     }
+
+unfoldable pub corrAnswer : Shape → List ℕ → List ℕ → List ℕ → List ℕ → List ℕ → List ℕ → ChromaCorr
+corrAnswer s y cb cr y-denoised cb-denoised cr-denoised =
+    let n = frameRefusal s y cb cr y-denoised cb-denoised cr-denoised in
+    accepted n (correlations (geometryOf s) y cb cr y-denoised cb-denoised cr-denoised) (refused n)

@@ -1,8 +1,9 @@
 -- "the sums of noise products that the calls make are cases of it": what that says of the chroma correlation.
 use mathlib.Core.List.{List}
 use Rattle.laws.specs.Window.{Place, window}
+use Rattle.noise.specs.Noise.{Pair}
 use Rattle.noise.specs.Average.{Luma}
-use Rattle.noise.specs.Products.{Pair, average, own}
+use Rattle.noise.specs.Products.{average, own}
 use Rattle.noise.specs.Claim.{Case}
 use Rattle.chroma_correlation.specs.Steps.{squaresF, productsF}
 

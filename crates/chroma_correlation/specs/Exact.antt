@@ -2,9 +2,9 @@
 use mathlib.Core.Bool.{cond}
 use lib.IntN.{ℤ, pos}
 use lib.Ieee.{binary64, div, le}
+use Rattle.laws.specs.Constants.{tiny}
 use Rattle.laws.specs.Scaled.{ofScaled}
 use Rattle.float.specs.Steps.{quantAr}
-use Rattle.chroma_correlation.specs.Steps.{tiny}
 
 -- the products are in quarters, the squares in sixteenths
 unfoldable pub tapOf : ℤ → ℤ → ℤ

@@ -4,15 +4,13 @@ use mathlib.Core.Bool.{cond}
 use lib.Dec.{eqb}
 use lib.IntN.{ℤ, pos}
 use lib.ListN.{length}
-use lib.Ieee.{Float, binary64, div, le, ofBits}
+use lib.Ieee.{Float, binary64, div, le}
+use Rattle.laws.specs.Constants.{tiny}
 use Rattle.float.specs.Steps.{quantAr}
+use Rattle.noise.specs.Noise.{Pair}
 use Rattle.noise.specs.Average.{Luma}
-use Rattle.noise.specs.Products.{Pair, own, average}
+use Rattle.noise.specs.Products.{own, average}
 use Rattle.noise.specs.Steps.{windowF}
-
--- 1e-9
-abbrev pub tiny : Float
-tiny = ofBits binary64 0x3e11_2e0b_e826_d695
 
 -- `s_ll += l * l;`
 unfoldable pub squaresF : Luma → Pair → Float
