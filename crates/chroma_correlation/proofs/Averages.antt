@@ -1,43 +1,44 @@
--- The two f64 sums of the chroma correlation are the exact sums, in sixteenths and in quarters, turned into an f64 once: cases of demand 3. So the correlation is the tap of the exact sums. Assumes nothing.
+-- The two f64 sums of the chroma correlation are the luma tap's exact sums at lag 0, in sixteenths and in quarters, turned into an f64 once: at lag 0 the window is the whole plane and the only factor is the sample. So the correlation is the tap of the exact sums. Assumes nothing.
 use mathlib.Core.Path.{_≡_, refl, sym, _∙_, ap}
 use mathlib.Core.Bool.{Bool, true, false}
 use mathlib.Core.List.{List}
-use Prim.Native.Nat.{ℕ, _*_, _^_, _≤_, zero-le}
-use native.Mathlib.Nat.{le-trans, le-of-eq, le-antisymm, lt-of-le-of-lt, not-suc-le-zero, mul-assoc, mul-comm, mul-le-mul}
+use Prim.Native.Nat.{ℕ, _*_, _^_, _≤_, _<_, zero-le}
+use native.Mathlib.Nat.{le-trans, le-of-eq, le-antisymm, lt-of-lt-of-le, lt-of-le-of-lt, not-suc-le-zero, mul-comm, sub-zero}
+use native.Mathlib.Omega.{arith}
 use borrow.Author.Tests.{eqb-true}
+use lib.Arith.{digits-lt}
 use lib.Dec.{eqb, lit≤, lit<}
-use lib.IntN.{ℤ, pos, negsuc, natAbs}
-use lib.ListN.{length}
+use lib.IntN.{ℤ, pos, negsuc, natAbs, _*ℤ_}
+use lib.ListN.{length, getD}
 use lib.Ieee.{Float, binary64, div, le, ofInt, ofBits, round}
 use mir.Syntax.{w64}
 use mir.Val.{toZ, ofZ}
 use mir.ValLaws.{toZ-ofZ}
-use Rattle.laws.specs.Scaled.{ofScaled}
-use Rattle.laws.proofs.Is.{sfits}
-use Rattle.laws.proofs.Sums.{sum-bound}
+use Rattle.laws.specs.Constants.{four, sixteen}
 use Rattle.laws.specs.Limits.{planeLimit, sampleLimit}
-use Rattle.noise.specs.Average.{Luma}
-use Rattle.noise.specs.Products.{pair, own, average}
-use Rattle.noise.specs.Claim.{Limited}
-use Rattle.noise.specs.AverageSums.{squaresAlong, productsAlong, averageSquares, averageProducts, Component}
-use Rattle.noise.proofs.Accepted.{plane-samples}
+use Rattle.laws.specs.Scaled.{ofScaled}
+use Rattle.laws.specs.Sums.{span}
+use Rattle.laws.specs.Table.{tabulate}
+use Rattle.laws.proofs.Is.{sfits}
+use Rattle.laws.proofs.Sums.{sum-ext, span-zero}
+use Rattle.laws.proofs.Table.{getD-tabulate}
+use Rattle.frame.specs.declared.view.Geometry.{Geometry}
+use Rattle.frame.proofs.Viewed.{viewed-length}
+use Rattle.noise.specs.Noise.{Pair, noiseOf}
+use Rattle.noise.specs.Seen.{Seen, Over, seen, sumOver}
+use Rattle.noise.specs.Average.{Luma, lumaSeen, quarters}
+use Rattle.noise.specs.Products.{average}
 use Rattle.noise.proofs.Divided.{divided}
-use Rattle.float.specs.Steps.{sixteen}
-use Rattle.noise.proofs.Products.{frame-held}
-use Rattle.noise.proofs.ChromaSums.{narrow, low, squares-le, products-le}
 use Rattle.noise.proofs.FitWindow.{squares-sum, products-sum}
+use Rattle.noise.proofs.Over.{seen-samples, luma-limited, tap-over}
+use Rattle.noise.proofs.Products.{frame-held}
+use Rattle.positions.specs.Counts.{factors}
+use Rattle.normal.specs.Normal.{Picture, windowSum, tapEntry, tapSquare}
+use Rattle.normal.specs.Calls.{Window}
+use Rattle.normal.proofs.Bounds.{tap-bound, square-bound}
+use Rattle.normal.proofs.Windows.{InWindow, sample-last, window-bound, window-ext, window-swap}
 use Rattle.chroma_correlation.specs.Steps.{squaresF, productsF, corr}
 use Rattle.chroma_correlation.specs.Exact.{tapOf}
-
--- 4.0
-abbrev pub four : Float
-four = ofBits binary64 0x4010_0000_0000_0000
-
-small-square : 16380 * 16380 ≤ 2 ^ 28
-small-square = lit≤ tt
-
-small-product : 16380 * 4095 ≤ 2 ^ 28
-small-product = lit≤ tt
 
 -- a sum that an i64 holds, in a local
 held : (z : ℤ) → natAbs z ≤ 2 ^ 53 → toZ w64 (ofZ w64 z) ≡ z
@@ -60,53 +61,88 @@ flat : (products : ℤ) → tapOf products (pos 0) ≡ pos 0
 unfolding tapOf ofScaled le ofBits round
 flat products = refl
 
-module _ (l : Luma) (source denoised : List ℕ) (cw ch : ℕ) (K : Component l source denoised cw ch) where
-  luma-limited : Limited planeLimit sampleLimit (average l)
-  luma-limited = plane-samples (l .width) (l .height) (l .source) (l .denoised) (K .narrow) (K .low) (K .of-luma)
+-- ---- lag 0
+pub window-0 : (w h : ℕ) → Window w h 0
+window-0 w h = record { few = zero-le; columns = zero-le; rows = zero-le }
 
-  chroma-limited : Limited planeLimit sampleLimit (own (pair source denoised cw ch))
-  chroma-limited = plane-samples cw ch source denoised (narrow l K) (low l K) (K .of-chroma)
+module _ (w h : ℕ) (f q : Picture) where
+  -- the window is the plane
+  window-whole : windowSum w h 0 f q ≡ sumOver h w (λ r c. f r c *ℤ q r c)
+  unfolding windowSum
+  window-whole =
+      (λ i. span (λ r. span (λ c. f r c *ℤ q r c) 0 (sub-zero w i)) 0 (sub-zero h i))
+      ∙ span-zero (λ r. span (λ c. f r c *ℤ q r c) 0 w) h
+      ∙ sum-ext _ _ h (λ r l. span-zero (λ c. f r c *ℤ q r c) w)
 
-  squares-le-plane : natAbs (averageSquares l cw ch) ≤ ch * (cw * (16380 * 16380))
-  squares-le-plane = sum-bound (squaresAlong l cw) (cw * (16380 * 16380)) ch (λ r i. squares-le l K r i)
+  -- the only factor is the sample
+  sample-tap : tapEntry f q w h 0 0 ≡ windowSum w h 0 q f
+  sample-tap = window-ext w h 0 _ f q q (λ r c p. sample-last f 0 r c zero-le zero-le) (λ r c p. refl) ∙ window-swap w h 0 f q
 
-  squares-small : natAbs (averageSquares l cw ch) ≤ 2 ^ 53
-  squares-small = le-trans squares-le-plane (le-trans (mul-le-mul (low l K) (mul-le-mul (narrow l K) small-square)) (lit≤ tt))
+  -- an empty plane has no sum
+  window-empty : w * h ≡ 0 → windowSum w h 0 f q ≡ pos 0
+  window-empty e = nothing _ (omega (arith, window-bound w h 0 f q 0 0 (λ r c p. absurd (no-place r c p)) (λ r c p. absurd (no-place r c p))))
+    where
+      no-place : (r c : ℕ) → InWindow w h 0 r c → ⊥
+      no-place r c p =
+          let l : c < w = omega (arith, p .right) in
+          not-suc-le-zero (lt-of-lt-of-le (digits-lt (p .below) l) (le-of-eq (mul-comm h w ∙ e)))
 
-  products-small : natAbs (averageProducts l source denoised cw ch) ≤ 2 ^ 53
-  products-small =
-      le-trans (sum-bound (productsAlong l source denoised cw) (cw * (16380 * 4095)) ch (λ r i. products-le l K r i))
-      (le-trans (mul-le-mul (low l K) (mul-le-mul (narrow l K) small-product)) (lit≤ tt))
+-- ---- the sums of a component
+module _ {g : Geometry} (O : Over g) {y y-denoised : List ℕ} (L : Seen (g .luma) y y-denoised) {source denoised : List ℕ} (S : Seen (g .chroma) source denoised) where
+  abbrev luma : Luma
+  luma = lumaSeen g y y-denoised
 
-  squares-exact : squaresF l (pair source denoised cw ch) ≡ ofScaled 4 (averageSquares l cw ch)
+  abbrev chroma : Pair
+  chroma = seen (g .chroma) source denoised
+
+  abbrev entries : ℕ → ℤ
+  entries = tapEntry (noiseOf chroma) (quarters luma) (g .chroma .width) (g .chroma .height) 0
+
+  abbrev products : ℤ
+  products = entries 0
+
+  abbrev squares : ℤ
+  squares = tapSquare (quarters luma) (g .chroma .width) (g .chroma .height) 0
+
+  products-small : natAbs products ≤ 2 ^ 53
+  products-small = le-trans (tap-bound O L S (window-0 _ _) 0 (lit< tt)) (lit≤ tt)
+
+  squares-small : natAbs squares ≤ 2 ^ 53
+  squares-small = le-trans (square-bound O L S (window-0 _ _)) (lit≤ tt)
+
+  squares-exact : squaresF luma chroma ≡ ofScaled 4 squares
   unfolding squaresF
-  squares-exact = squares-sum planeLimit sampleLimit l (pair source denoised cw ch) (sym (K .rows)) (sym (K .columns)) (frame-held (average l) (average l)) luma-limited
+  squares-exact =
+      squares-sum planeLimit sampleLimit luma chroma (tap-over O y y-denoised source denoised 0) (frame-held (average luma) (average luma)) (luma-limited O L)
+      ∙ ap (ofScaled 4) (sym (window-whole _ _ (quarters luma) (quarters luma)))
 
-  products-exact : productsF l (pair source denoised cw ch) ≡ ofScaled 2 (averageProducts l source denoised cw ch)
+  products-exact : productsF luma chroma ≡ ofScaled 2 products
   unfolding productsF
-  products-exact = products-sum planeLimit sampleLimit l (pair source denoised cw ch) (sym (K .rows)) (sym (K .columns)) (frame-held (average l) (average l)) luma-limited chroma-limited
+  products-exact =
+      products-sum planeLimit sampleLimit luma chroma (tap-over O y y-denoised source denoised 0) (frame-held (average luma) (average luma)) (luma-limited O L) (seen-samples S)
+      ∙ ap (ofScaled 2) (sym (sample-tap _ _ (noiseOf chroma) (quarters luma) ∙ window-whole _ _ (quarters luma) (noiseOf chroma)))
 
-  -- of an empty plane the squares are none
-  no-squares : length source ≡ 0 → averageSquares l cw ch ≡ pos 0
-  no-squares e =
-      let z : ch * (cw * (16380 * 16380)) ≡ 0 = sym (mul-assoc ch cw (16380 * 16380)) ∙ ap (λ (n : ℕ). n * (16380 * 16380)) (mul-comm ch cw ∙ sym (K .of-chroma .source-size) ∙ e) in
-      nothing (averageSquares l cw ch) (le-trans squares-le-plane (le-of-eq z))
-
-  tap-when : (b : Bool) → eqb (length source) 0 ≡ b → tapOf (averageProducts l source denoised cw ch) (averageSquares l cw ch) ≡ corr l (pair source denoised cw ch)
+  tap-when : (b : Bool) → eqb (length (chroma .source)) 0 ≡ b → tapOf products squares ≡ corr luma chroma
   unfolding corr tapOf
-  tap-when true t = ap (λ (z : ℤ). tapOf (averageProducts l source denoised cw ch) z) (no-squares (eqb-true (length source) 0 t)) ∙ flat (averageProducts l source denoised cw ch) ∙ rw t
+  tap-when true t =
+      ap (λ (z : ℤ). tapOf products z) (window-empty _ _ (quarters luma) (quarters luma) (sym (viewed-length (g .chroma) source) ∙ eqb-true (length (chroma .source)) 0 t))
+      ∙ flat products
+      ∙ rw t
   tap-when false t = rw (t, squares-exact, products-exact)
 
-  -- ---- the sums, out of a struct's fields
-  module _ (p s : ℤ) (products : p ≡ averageProducts l source denoised cw ch) (squares : s ≡ averageSquares l cw ch) where
-    products-held : toZ w64 (ofZ w64 p) ≡ averageProducts l source denoised cw ch
-    products-held = ap (λ (z : ℤ). toZ w64 (ofZ w64 z)) products ∙ held _ products-small
+  pub tap-is : tapOf products squares ≡ corr luma chroma
+  tap-is = tap-when (eqb (length (chroma .source)) 0) refl
 
-    squares-held : toZ w64 (ofZ w64 s) ≡ averageSquares l cw ch
-    squares-held = ap (λ (z : ℤ). toZ w64 (ofZ w64 z)) squares ∙ held _ squares-small
+  -- ---- the sums, out of what `normal::tap_sums` leaves: a list of one sum, and the squares
+  module _ {taps : List ℤ} {sixteenths : ℤ} (taps-are : taps ≡ tabulate (factors 0) entries) (squares-are : sixteenths ≡ squares) where
+    products-held : toZ w64 (ofZ w64 (getD taps 0 (pos 0))) ≡ products
+    products-held = ap (λ (z : ℤ). toZ w64 (ofZ w64 z)) (ap (λ (l : List ℤ). getD l 0 (pos 0)) taps-are ∙ getD-tabulate (factors 0) entries 0 (pos 0) (lit< tt)) ∙ held products products-small
 
-    pub sums-small : (natAbs (toZ w64 (ofZ w64 p)) ≤ 2 ^ 53) × (natAbs (toZ w64 (ofZ w64 s)) ≤ 2 ^ 53)
+    squares-held : toZ w64 (ofZ w64 sixteenths) ≡ squares
+    squares-held = ap (λ (z : ℤ). toZ w64 (ofZ w64 z)) squares-are ∙ held squares squares-small
+
+    pub sums-small : (natAbs (toZ w64 (ofZ w64 (getD taps 0 (pos 0)))) ≤ 2 ^ 53) × (natAbs (toZ w64 (ofZ w64 sixteenths)) ≤ 2 ^ 53)
     sums-small = (le-trans (le-of-eq (ap natAbs products-held)) products-small, le-trans (le-of-eq (ap natAbs squares-held)) squares-small)
 
-    pub tap-is : tapOf (toZ w64 (ofZ w64 p)) (toZ w64 (ofZ w64 s)) ≡ corr l (pair source denoised cw ch)
-    tap-is = (λ i. tapOf (products-held i) (squares-held i)) ∙ tap-when (eqb (length source) 0) refl
+    pub tap-held : tapOf (toZ w64 (ofZ w64 (getD taps 0 (pos 0)))) (toZ w64 (ofZ w64 sixteenths)) ≡ corr luma chroma
+    tap-held = (λ i. tapOf (products-held i) (squares-held i)) ∙ tap-is

@@ -3,48 +3,39 @@ use mathlib.Core.Path.{_≡_}
 use mathlib.Core.List.{List}
 use Prim.Native.Nat.{ℕ}
 use native.Mathlib.Omega.{arith}
-use Rattle.laws.specs.Limits.{planeLimit, sampleLimit}
-use Rattle.frame.specs.Size.{chromaWidth, chromaHeight}
 use Rattle.frame.specs.Calls.{frameRefusal}
-use Rattle.frame.specs.Planes.{samplesOf}
+use Rattle.frame.specs.Planes.{geometryOf}
 use Rattle.frame.specs.declared.Shape.{Shape}
-use Rattle.frame.specs.declared.view.Component.the-variants.{Y, CbCr}
-use Rattle.frame.proofs.Accepted.{FrameCall, frame-call}
-use Rattle.frame.proofs.Facts.{Small, Plane}
-use Rattle.noise.specs.Average.{Luma}
-use Rattle.noise.specs.Quarters.{luma}
-use Rattle.noise.specs.Products.{Pair, average, own, pair}
-use Rattle.noise.specs.Claim.{Limited}
-use Rattle.noise.proofs.Accepted.{accepted-samples, chroma-small}
+use Rattle.frame.specs.declared.view.Geometry.{Geometry}
+use Rattle.noise.specs.Seen.{Seen, Over, SeenFrame, seen}
+use Rattle.noise.specs.Average.{lumaSeen}
+use Rattle.noise.specs.Products.{average, own}
+use Rattle.noise.proofs.Accepted.{frame-seen}
+use Rattle.noise.proofs.Over.{seen-samples, luma-limited, average-exists}
 use Rattle.noise.proofs.Steps.{frame-case, onward-exists}
 use Rattle.chroma_correlation.specs.Steps.{squaresF, productsF}
-use Rattle.chroma_correlation.specs.Demand.{CorrSums}
+use Rattle.chroma_correlation.specs.Demand.{CorrCases}
 
-module _ (s : Shape) (y dy : List ℕ) (size : Small (s .width) (s .height)) (P : Plane (samplesOf s Y) (s .depth) y) (Q : Plane (samplesOf s Y) (s .depth) dy) where
-  abbrev lumaOf : Luma
-  lumaOf = luma y dy (s .width) (s .height) (s .format)
+sums : {g : Geometry} {y y-denoised c c-denoised : List ℕ} → Over g → Seen (g .luma) y y-denoised → Seen (g .chroma) c c-denoised → CorrCases (lumaSeen g y y-denoised) (seen (g .chroma) c c-denoised)
+unfolding squaresF productsF
+sums {g} {y} {y-denoised} {c} {c-denoised} O L S =
+    let luma = lumaSeen g y y-denoised in
+    let chroma = seen (g .chroma) c c-denoised in
+    let h = g .chroma .height in
+    let w = g .chroma .width in
+    record {
+      squares = frame-case (average luma) (average luma) 0 h 0 w
+          (λ r q a k b m. (average-exists O y y-denoised r q k m, average-exists O y y-denoised r q k m)) (luma-limited O L) (luma-limited O L);
+      products = frame-case (average luma) (own chroma) 0 h 0 w
+          (λ r q a k b m. (average-exists O y y-denoised r q k m, onward-exists chroma 0 r q k (omega arith))) (luma-limited O L) (seen-samples S);
+    }
 
-  abbrev chromaOf : List ℕ → List ℕ → Pair
-  chromaOf c dc = pair c dc (chromaWidth (s .format) (s .width)) (chromaHeight (s .format) (s .height))
+module _ (s : Shape) (y cb cr y-denoised cb-denoised cr-denoised : List ℕ) (passed : frameRefusal s y cb cr y-denoised cb-denoised cr-denoised ≡ 0) where
+  facts : SeenFrame (geometryOf s) y y-denoised cb cb-denoised cr cr-denoised
+  facts = frame-seen s y cb cr y-denoised cb-denoised cr-denoised passed
 
-  sums : (c dc : List ℕ) → Plane (samplesOf s CbCr) (s .depth) c → Plane (samplesOf s CbCr) (s .depth) dc → CorrSums lumaOf (chromaOf c dc)
-  unfolding squaresF productsF
-  sums c dc M N =
-      let w = chromaWidth (s .format) (s .width) in
-      let h = chromaHeight (s .format) (s .height) in
-      let S : Limited planeLimit sampleLimit (average lumaOf) = accepted-samples _ _ _ y dy size P Q in
-      let T : Limited planeLimit sampleLimit (own (chromaOf c dc)) = accepted-samples _ _ _ c dc (chroma-small (s .format) _ _ size) M N in
-      record {
-        squares = frame-case (average lumaOf) (average lumaOf) 0 h 0 w (λ r q a k b m. ((k, m), (k, m))) S S;
-        products = frame-case (average lumaOf) (own (chromaOf c dc)) 0 h 0 w (λ r q a k b m. ((k, m), onward-exists (chromaOf c dc) 0 r q k (omega arith))) S T;
-      }
+  pub cb-sums : CorrCases (lumaSeen (geometryOf s) y y-denoised) (seen (geometryOf s .chroma) cb cb-denoised)
+  cb-sums = sums (facts .over) (facts .luma) (facts .cb)
 
-module _ (s : Shape) (y cb cr dy dcb dcr : List ℕ) (passed : frameRefusal s y cb cr dy dcb dcr ≡ 0) where
-  facts : FrameCall s y cb cr dy dcb dcr
-  facts = frame-call s y cb cr dy dcb dcr passed
-
-  pub cb-sums : CorrSums (luma y dy (s .width) (s .height) (s .format)) (pair cb dcb (chromaWidth (s .format) (s .width)) (chromaHeight (s .format) (s .height)))
-  cb-sums = sums s y dy (facts .shape .size) (facts .source .y) (facts .copy .y) cb dcb (facts .source .cb) (facts .copy .cb)
-
-  pub cr-sums : CorrSums (luma y dy (s .width) (s .height) (s .format)) (pair cr dcr (chromaWidth (s .format) (s .width)) (chromaHeight (s .format) (s .height)))
-  cr-sums = sums s y dy (facts .shape .size) (facts .source .y) (facts .copy .y) cr dcr (facts .source .cr) (facts .copy .cr)
+  pub cr-sums : CorrCases (lumaSeen (geometryOf s) y y-denoised) (seen (geometryOf s .chroma) cr cr-denoised)
+  cr-sums = sums (facts .over) (facts .luma) (facts .cr)

@@ -1,24 +1,30 @@
 -- "Between two accepted calls of one shape that differ only in Cr samples, every luma and Cb result is the same." Assumes nothing.
-use mathlib.Core.Path.{_≡_, sym, _∙_}
+use mathlib.Core.Path.{_≡_, refl, sym, ap, _∙_}
 use mathlib.Core.List.{List}
-use Prim.Native.Nat.{ℕ}
-use lib.IntN.{pos}
-use Rattle.frame.specs.Size.{chromaWidth, chromaHeight}
+use Prim.Native.Nat.{ℕ, zero, suc}
+use native.Mathlib.Nat.{le-of-eq, not-suc-le-zero}
+use Rattle.frame.specs.Planes.{geometryOf}
+use Rattle.frame.specs.Questions.{accepted}
 use Rattle.frame.specs.Calls.{frameRefusal}
 use Rattle.frame.specs.declared.Shape.{Shape}
-use Rattle.frame.proofs.Refusal.{granted}
-use Rattle.noise.specs.Products.{pair}
-use Rattle.noise.specs.Quarters.{luma}
+use Rattle.noise.specs.Seen.{seen}
+use Rattle.noise.specs.Average.{lumaSeen}
 use Rattle.chroma_correlation.specs.Steps.{corr}
-use Rattle.chroma_correlation.specs.Answer.{corrAnswer}
+use Rattle.chroma_correlation.specs.Answer.{refused, corrAnswer}
+use Rattle.chroma_correlation.specs.declared.ChromaCorr.{ChromaCorr}
 
-module _ (s : Shape) (y cb dy dcb : List ℕ) where
+-- an answer without a number is the accepted call's
+unrefused : (n : ℕ) (value : ChromaCorr) → accepted n value (refused n) .refusal ≡ 0 → accepted n value (refused n) ≡ value
+unrefused zero value e = refl
+unrefused (suc n) value e = absurd (not-suc-le-zero (le-of-eq e))
+
+module _ (s : Shape) (y cb y-denoised cb-denoised : List ℕ) where
   -- Cb's coefficient of an accepted call
-  blue : (cr dcr : List ℕ) → corrAnswer s y cb cr dy dcb dcr .refusal ≡ 0
-      → corrAnswer s y cb cr dy dcb dcr .cb ≡ corr (luma y dy (s .width) (s .height) (s .format)) (pair cb dcb (chromaWidth (s .format) (s .width)) (chromaHeight (s .format) (s .height)))
+  blue : (cr cr-denoised : List ℕ) → corrAnswer s y cb cr y-denoised cb-denoised cr-denoised .refusal ≡ 0
+      → corrAnswer s y cb cr y-denoised cb-denoised cr-denoised .cb ≡ corr (lumaSeen (geometryOf s) y y-denoised) (seen (geometryOf s .chroma) cb cb-denoised)
   unfolding corrAnswer
-  blue cr dcr e = granted (frameRefusal s y cb cr dy dcb dcr) _ (pos 0) e
+  blue cr cr-denoised e = ap (λ (a : ChromaCorr). a .cb) (unrefused (frameRefusal s y cb cr y-denoised cb-denoised cr-denoised) _ e)
 
-  pub only-cr : (cr dcr cr′ dcr′ : List ℕ) → corrAnswer s y cb cr dy dcb dcr .refusal ≡ 0 → corrAnswer s y cb cr′ dy dcb dcr′ .refusal ≡ 0
-      → corrAnswer s y cb cr dy dcb dcr .cb ≡ corrAnswer s y cb cr′ dy dcb dcr′ .cb
-  only-cr cr dcr cr′ dcr′ e e′ = blue cr dcr e ∙ sym (blue cr′ dcr′ e′)
+  pub only-cr : (cr cr-denoised cr′ cr-denoised′ : List ℕ) → corrAnswer s y cb cr y-denoised cb-denoised cr-denoised .refusal ≡ 0 → corrAnswer s y cb cr′ y-denoised cb-denoised cr-denoised′ .refusal ≡ 0
+      → corrAnswer s y cb cr y-denoised cb-denoised cr-denoised .cb ≡ corrAnswer s y cb cr′ y-denoised cb-denoised cr-denoised′ .cb
+  only-cr cr cr-denoised cr′ cr-denoised′ e e′ = blue cr cr-denoised e ∙ sym (blue cr′ cr-denoised′ e′)

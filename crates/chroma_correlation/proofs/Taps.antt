@@ -3,9 +3,9 @@ use mathlib.Core.Path.{_≡_}
 use mathlib.Core.Bool.{true, false}
 use lib.IntN.{ℤ, pos}
 use lib.Ieee.{Float, binary64, div, le}
+use Rattle.laws.specs.Constants.{tiny}
 use Rattle.laws.specs.Scaled.{ofScaled}
 use Rattle.float.specs.Steps.{quantAr}
-use Rattle.chroma_correlation.specs.Steps.{tiny}
 use Rattle.chroma_correlation.specs.Exact.{tapOf}
 
 module _ (products squares : ℤ) (x : Float) (energy : x ≡ ofScaled 4 squares) where

@@ -12,6 +12,6 @@ abbrev pub everywhere : Pair → List Place
 everywhere chroma = window 0 (chroma .height) 0 (chroma .width)
 
 -- of one component
-pub record CorrSums (luma : Luma) (chroma : Pair) : Type 0 where
+pub record CorrCases (luma : Luma) (chroma : Pair) : Type 0 where
   pub squares : Case (average luma) (average luma) (everywhere chroma) (squaresF luma chroma)
   pub products : Case (average luma) (own chroma) (everywhere chroma) (productsF luma chroma)

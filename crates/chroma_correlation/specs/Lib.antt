@@ -1,4 +1,6 @@
+-- what the results are, and what they rest on
 pub mod Steps
-pub mod Exact
 pub mod Answer
 pub mod Demand
+-- how the work is divided: the contracts of the parts
+pub mod Exact

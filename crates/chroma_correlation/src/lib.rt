@@ -1,10 +1,12 @@
 // The correlation of a chroma plane's noise with luma's, as a coefficient.
+use frame::Geometry;
 use frame::Shape;
 ghost use mathlib.Core.Path.{_≡_};
 ghost use Prim.Native.Nat.{_^_, _≤_};
 ghost use lib.IntN.{natAbs};
+ghost use Rattle.noise.specs.Seen.{SeenFrame};
 ghost use Rattle.chroma_correlation.specs.Exact.{tapOf};
-ghost use Rattle.chroma_correlation.specs.Answer.{corrAnswer};
+ghost use Rattle.chroma_correlation.specs.Answer.{correlations, corrAnswer};
 
 // The luma tap of each chroma plane, at lag 0.
 #[repr(C)]
@@ -27,19 +29,53 @@ fn tap(products: i64, squares: i64) -> i32
     float::quant_ar(cross / energy)
 }
 
+// The luma taps of Cb and Cr: at lag 0 the only factor is the sample, and the window is the plane.
+fn correlate(
+    y: &[u16],
+    yden: &[u16],
+    cb: &[u16],
+    cbden: &[u16],
+    cr: &[u16],
+    crden: &[u16],
+    geometry: Geometry,
+) -> ChromaCorr
+    requires { ⌜ SeenFrame geometry (now y) (now yden) (now cb) (now cbden) (now cr) (now crden) ⌝ }
+    ensures { λ r. ⌜ r ≡ correlations geometry (now (y .entry)) (now (cb .entry)) (now (cr .entry)) (now (yden .entry)) (now (cbden .entry)) (now (crden .entry)) ⌝ }
+{
+    let mut cbtaps = [0; 1];
+    let mut crtaps = [0; 1];
+    let squares = normal::tap_sums(
+        y,
+        yden,
+        cb,
+        cbden,
+        cr,
+        crden,
+        geometry,
+        0,
+        &mut cbtaps,
+        &mut crtaps,
+    );
+    ChromaCorr {
+        refusal: 0,
+        cb: tap(cbtaps[0], squares),
+        cr: tap(crtaps[0], squares),
+    }
+}
+
 // The luma taps of Cb and Cr at lag 0, where there are no luma coefficients.
 pub fn fit_chroma_corr(
     s: Shape,
     y: &[u16],
     cb: &[u16],
     cr: &[u16],
-    dy: &[u16],
-    dcb: &[u16],
-    dcr: &[u16],
+    yden: &[u16],
+    cbden: &[u16],
+    crden: &[u16],
 ) -> ChromaCorr
-    ensures { λ r. ⌜ r ≡ corrAnswer s (now (y .entry)) (now (cb .entry)) (now (cr .entry)) (now (dy .entry)) (now (dcb .entry)) (now (dcr .entry)) ⌝ }
+    ensures { λ r. ⌜ r ≡ corrAnswer s (now (y .entry)) (now (cb .entry)) (now (cr .entry)) (now (yden .entry)) (now (cbden .entry)) (now (crden .entry)) ⌝ }
 {
-    let n = frame::frame_refusal(s, y, cb, cr, dy, dcb, dcr);
+    let n = frame::frame_refusal(s, y, cb, cr, yden, cbden, crden);
     if n != 0 {
         return ChromaCorr {
             refusal: n,
@@ -47,24 +83,5 @@ pub fn fit_chroma_corr(
             cr: 0,
         };
     }
-    let cw = s.chroma_width();
-    let ch = s.chroma_height();
-    let sums = noise::average_products(
-        y,
-        dy,
-        s.width,
-        s.height,
-        s.format,
-        cb,
-        dcb,
-        cr,
-        dcr,
-        cw,
-        ch,
-    );
-    ChromaCorr {
-        refusal: 0,
-        cb: tap(sums.cb, sums.squares),
-        cr: tap(sums.cr, sums.squares),
-    }
+    correlate(y, yden, cb, cbden, cr, crden, s.geometry())
 }

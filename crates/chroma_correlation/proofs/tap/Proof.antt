@@ -4,8 +4,8 @@ use borrow.Author.Needs.{needs}
 use lib.Ieee.{Float, binary64, div}
 use mir.Syntax.{w32}
 use mir.ValLaws.{toZ-ofZ}
-use Rattle.float.specs.Steps.{sixteen}
-use Rattle.chroma_correlation.proofs.Averages.{four, in-sixteenths, in-quarters}
+use Rattle.laws.specs.Constants.{four, sixteen}
+use Rattle.chroma_correlation.proofs.Averages.{in-sixteenths, in-quarters}
 use Rattle.chroma_correlation.proofs.Taps.{flat, quotient}
 use Rattle.chroma_correlation.proofs.tap.Statement.{statement}
 use Rattle.chroma_correlation.proofs.tap.Tie as tie
