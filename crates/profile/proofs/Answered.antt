@@ -1,53 +1,29 @@
--- An answer, refused or accepted, is the definition's. Assumes nothing.
-use mathlib.Core.Path.{_≡_, sym, _∙_}
+-- An answer of the form `accepted n value (none n)`: a refused call's is `none` of its number, an accepted one's the value. And what the planes of an accepted call are: seen whole, with low samples. Assumes nothing.
+use mathlib.Core.Path.{_≡_, sym, ap, _∙_}
 use mathlib.Core.List.{List}
-use Prim.Native.Nat.{ℕ, _-_}
-use Rattle.frame.specs.declared.Shape.{Shape}
+use Prim.Native.Nat.{ℕ, _*_}
 use Rattle.frame.specs.Questions.{accepted}
-use Rattle.frame.specs.Calls.{pairRefusal, frameRefusal}
+use Rattle.frame.specs.View.{whole}
+use Rattle.frame.proofs.Facts.{Small, Depth, Plane}
 use Rattle.frame.proofs.Refusal.{refused, granted}
-use Rattle.profile.specs.Steps.{planeSigma16}
-use Rattle.profile.specs.Answers.{sigmaAnswer, lumaOf, chromaOf, noProfile, lumaProfile, chromaProfile, noEstimate, estimateAnswer}
-use Rattle.profile.specs.declared.Sigma.{Sigma}
-use Rattle.profile.specs.declared.LumaProfile.{LumaProfile}
-use Rattle.profile.specs.declared.ChromaProfile.{ChromaProfile}
-use Rattle.profile.specs.declared.NoiseEstimate.{NoiseEstimate}
+use Rattle.noise.proofs.Seen.{seen-all}
+use Rattle.noise.proofs.Accepted.{plane-of}
+use Rattle.profile.specs.Runs.{SeenAt}
 
-module _ (w h depth : ℕ) (a b : List ℕ) where
-  abbrev sigmaOf : ℕ → ℕ → Sigma
-  sigmaOf n v = record { refusal = n; sigma16 = v }
+module _ {A : Type 0} (value : A) (none : ℕ → A) {n m : ℕ} (e : n ≡ m) where
+  pub answer-refused : (n ≡ 0 → ⊥) → none n ≡ accepted m value (none m)
+  answer-refused z = ap none e ∙ sym (refused m value (none m) (λ d. z (e ∙ d)))
 
-  pub sigma-refused : {n : ℕ} → n ≡ pairRefusal w h depth a b → (n ≡ 0 → ⊥) → sigmaOf n 0 ≡ sigmaAnswer w h depth a b
-  unfolding sigmaAnswer
-  sigma-refused e z = λ i. sigmaOf (e i) (sym (refused (pairRefusal w h depth a b) (planeSigma16 (depth - 8) a b) 0 (λ d. z (e ∙ d))) i)
+  pub answer-granted : n ≡ 0 → {got : A} → got ≡ value → got ≡ accepted m value (none m)
+  answer-granted z d = d ∙ sym (granted m value (none m) (sym e ∙ z))
 
-  pub sigma-accepted : {v : ℕ} → pairRefusal w h depth a b ≡ 0 → v ≡ planeSigma16 (depth - 8) a b → sigmaOf 0 v ≡ sigmaAnswer w h depth a b
-  unfolding sigmaAnswer
-  sigma-accepted e p =
-      λ i. sigmaOf (sym e i) ((p ∙ sym (granted (pairRefusal w h depth a b) (planeSigma16 (depth - 8) a b) 0 e)) i)
-
-module _ (s : Shape) (y cb cr y′ cb′ cr′ : List ℕ) where
-  abbrev number : ℕ
-  number = frameRefusal s y cb cr y′ cb′ cr′
-
-  abbrev estimateOf : ℕ → LumaProfile → ChromaProfile → ChromaProfile → NoiseEstimate
-  estimateOf n l b r = record { refusal = n; luma = l; cb = b; cr = r }
-
-  pub estimate-refused : {n : ℕ} → n ≡ number → (n ≡ 0 → ⊥) → noEstimate n ≡ estimateAnswer s y cb cr y′ cb′ cr′
-  unfolding estimateAnswer
-  estimate-refused e z =
-      λ i.
-      estimateOf (e i) (none (lumaProfile (s .depth) y y′) (lumaOf (noProfile 8)) i) (none (chromaProfile (s .depth) cb cb′) (chromaOf (noProfile 4)) i)
-      (none (chromaProfile (s .depth) cr cr′) (chromaOf (noProfile 4)) i)
-    where
-      none : {A : Type 0} (new old : A) → old ≡ accepted number new old
-      none new old = sym (refused number new old (λ d. z (e ∙ d)))
-
-  pub estimate-accepted : {l : LumaProfile} {b r : ChromaProfile} → number ≡ 0
-      → l ≡ lumaProfile (s .depth) y y′ → b ≡ chromaProfile (s .depth) cb cb′ → r ≡ chromaProfile (s .depth) cr cr′
-      → estimateOf 0 l b r ≡ estimateAnswer s y cb cr y′ cb′ cr′
-  unfolding estimateAnswer
-  estimate-accepted e p q t = λ i. estimateOf (sym e i) (some p (lumaOf (noProfile 8)) i) (some q (chromaOf (noProfile 4)) i) (some t (chromaOf (noProfile 4)) i)
-    where
-      some : {A : Type 0} {got new : A} → got ≡ new → (old : A) → got ≡ accepted number new old
-      some {new = new} p old = p ∙ sym (granted number new old e)
+pub seen-at : (w h : ℕ) {depth : ℕ} {source denoised : List ℕ} → Small w h → Depth depth → Plane (w * h) depth source → Plane (w * h) depth denoised
+    → SeenAt depth (whole w h) source denoised
+seen-at w h {depth} {source} {denoised} S d p q =
+    record {
+      least-depth = d .least;
+      most-depth = d .most;
+      seen = seen-all (plane-of w h depth source denoised p q) (S .wide) (S .high);
+      source-low = p .below;
+      denoised-low = q .below;
+    }
