@@ -3,21 +3,22 @@ use mathlib.Core.Path.{_≡_, refl, sym, ap, _∙_}
 use mathlib.Core.Bool.{Bool, true, false, cond}
 use mathlib.Core.List.{List}
 use mathlib.Core.Logic.{_⊎_, inl, inr}
-use Prim.Native.Nat.{ℕ, _≤_, _<_, zero-le}
+use Prim.Native.Nat.{ℕ, _+_, _*_, _≤_, _<_, min, max, zero-le}
 use native.Mathlib.Nat.{le-trans, le-of-eq, lt-of-lt-of-le}
 use native.Mathlib.Omega.{arith}
-use lib.Dec.{eqb}
+use lib.Dec.{eqb, ltb}
 use lib.IntN.{ℤ, pos, natAbs}
 use lib.ListN.{length, getD}
+use borrow.Author.Tests.{ltb-true, ltb-false}
 use Rattle.laws.specs.Table.{tabulate}
 use Rattle.noise.specs.Lines.{at}
 use Rattle.laws.specs.Sums.{sumN}
 use Rattle.profile.specs.Shifted.{squareOf}
 use Rattle.profile.specs.Bins.{inBin}
-use Rattle.profile.specs.Parts.{noiseLimit, ShiftedLine, Binned, Between, lineCount, lineSquares}
+use Rattle.profile.specs.Parts.{noiseLimit, squareLimit, ShiftedLine, Binned, Between, lineCount, lineSquares}
 use Rattle.laws.proofs.SumsN.{sum-ext, sum-ones}
-use Rattle.profile.proofs.Squares.{line-small, line-sum}
-use Rattle.profile.proofs.Binning.{none-in, all-in}
+use Rattle.profile.proofs.Squares.{square-le, line-small, line-sum}
+use Rattle.profile.proofs.Binning.{bin-le, count-le, none-in, all-in}
 
 keep-small : (t : Bool) (d : ℤ) → natAbs d ≤ noiseLimit → natAbs (cond t d (pos 0)) ≤ noiseLimit
 keep-small true d h = h
@@ -48,6 +49,17 @@ module _ {line : List ℤ} {bins : List ℕ} (j : ℕ) (B : Binned line bins) wh
         ∙ ap (sumN (λ i. squareOf (kept i))) e
         ∙ sum-ext (λ i. squareOf (kept i)) (inBin (λ i. getD bins i 0) j (λ i. squareOf (at line i))) (length bins) (λ i l. keep-square (eqb (getD bins i 0) j) (at line i))
 
+  -- at most all places, with the largest squares
+  pub line-squares-le : lineSquares line bins j ≤ squareLimit * length bins
+  unfolding lineSquares
+  line-squares-le =
+      let bin : ℕ → ℕ = λ i. getD bins i 0 in
+      omega (arith, bin-le bin (λ i. squareOf (at line i)) (length bins) j squareLimit (λ i l. square-le (at line i) (small i l)), count-le bin (length bins) j)
+
+pub line-count-le : (bins : List ℕ) (j : ℕ) → lineCount bins j ≤ length bins
+unfolding lineCount
+line-count-le bins j = count-le (λ i. getD bins i 0) (length bins) j
+
 -- ---- bins outside a range, and a range of one bin
 module _ (line : List ℤ) {bins : List ℕ} {least greatest j : ℕ} (B : Between bins least greatest) where
   outside : (j < least) ⊎ (greatest < j) → (i : ℕ) → i < length bins → getD bins i 0 ≡ j → ⊥
@@ -66,3 +78,27 @@ module _ (line : List ℤ) {bins : List ℕ} {least greatest j : ℕ} (B : Betwe
   unfolding lineCount lineSquares
   everything a b e same =
       (sym (all-in _ (λ i. 1) (length bins) j (only a b e) ∙ sum-ones (length bins)), ap (sumN (λ i. squareOf (at line i))) same ∙ sym (all-in _ (λ i. squareOf (at line i)) (length bins) j (only a b e)))
+
+-- ---- the range of the first k bins
+pub record BetweenTo (bins : List ℕ) (least greatest k : ℕ) : Type 0 where
+  pub count : k ≤ length bins
+  pub least-is : (i : ℕ) → i < k → least ≤ getD bins i 0
+  pub greatest-is : (i : ℕ) → i < k → getD bins i 0 ≤ greatest
+
+pub between-starts : (bins : List ℕ) (least greatest : ℕ) → BetweenTo bins least greatest 0
+between-starts bins least greatest = record { count = omega arith; least-is = λ i l. absurd (omega arith); greatest-is = λ i l. absurd (omega arith) }
+
+module _ {bins : List ℕ} {least greatest k : ℕ} (B : BetweenTo bins least greatest k) where
+  pub between-turn : k < length bins → BetweenTo bins (min least (getD bins k 0)) (max greatest (getD bins k 0)) (k + 1)
+  between-turn h = record { count = omega arith; least-is = λ i l. low i l (ltb i k) refl; greatest-is = λ i l. high i l (ltb i k) refl }
+    where
+      low : (i : ℕ) → i < k + 1 → (t : Bool) → ltb i k ≡ t → min least (getD bins k 0) ≤ getD bins i 0
+      low i l true e = omega (arith, B .least-is i (ltb-true i k e))
+      low i l false e = let d : i ≡ k = omega (arith, ltb-false i k e) in rw d (omega arith)
+
+      high : (i : ℕ) → i < k + 1 → (t : Bool) → ltb i k ≡ t → getD bins i 0 ≤ max greatest (getD bins k 0)
+      high i l true e = omega (arith, B .greatest-is i (ltb-true i k e))
+      high i l false e = let d : i ≡ k = omega (arith, ltb-false i k e) in rw d (omega arith)
+
+  pub between-ends : length bins ≤ k → Between bins least greatest
+  between-ends h = record { least-is = λ i l. B .least-is i (omega arith); greatest-is = λ i l. B .greatest-is i (omega arith) }
