@@ -15,7 +15,7 @@ use Rattle.noise.proofs.LineSums.{entry}
 use Rattle.profile.specs.Shifted.{shiftedNoise, squareOf, square}
 use Rattle.profile.specs.Bins.{binAt}
 use Rattle.profile.specs.Parts.{partLimit, noiseLimit, squareLimit, LinesFrom, LinesOf, Binned, lineCount, lineSquares}
-use Rattle.profile.specs.Runs.{Run, runCount, runSquares}
+use Rattle.profile.specs.Runs.{Run, runCount, runSquares, Added, RunAdded, increased}
 use Rattle.profile.proofs.Range.{shifted-range, range-small, bin-shift}
 use Rattle.profile.proofs.Binning.{bin-ext}
 use Rattle.profile.proofs.Squares.{square-le, line-small}
@@ -49,13 +49,13 @@ module _ {depth start stride n : ℕ} {source denoised : List ℕ} (R : Run dept
   run-square i l = square-le (shiftedNoise (depth - 8) source denoised (start + i * stride)) (run-noise i l)
 
   module _ {bits : ℕ} {line : List ℤ} {bins : List ℕ} (narrow : bits ≤ 8) (L : LinesOf source denoised start stride (depth - 8) (depth - bits) n line bins) where
-    size : length bins ≡ n
-    size = ap length (L .bins-is) ∙ length-tabulate n _
+    pub bins-size : length bins ≡ n
+    bins-size = ap length (L .bins-is) ∙ length-tabulate n _
 
     pub part-binned : n ≤ partLimit → Binned line bins
     part-binned few =
         record {
-          same = ap length (L .line-is) ∙ length-tabulate n _ ∙ sym size;
+          same = ap length (L .line-is) ∙ length-tabulate n _ ∙ sym bins-size;
           shifted-line = line-small n _ (L .line-is) few run-noise;
         }
 
@@ -64,10 +64,16 @@ module _ {depth start stride n : ℕ} {source denoised : List ℕ} (R : Run dept
         rw (L .bins-is) (getD-tabulate n (λ k. getD source (start + k * stride) 0 / 2 ^ (depth - bits)) i 0 l)
         ∙ bin-shift depth (R .least-depth) bits (getD source (start + i * stride) 0) narrow (R .places .source-low _ (R .places .inside i l))
 
-    pub counts-are : lineCount bins ≡ runCount bits (depth - 8) source start stride n
+    counts-are : lineCount bins ≡ runCount bits (depth - 8) source start stride n
     unfolding lineCount
-    counts-are = fun-ext (λ j. ap (sumN _) size ∙ bin-ext _ _ (λ i. 1) (λ i. 1) n j bin-entry (λ i h. refl))
+    counts-are = fun-ext (λ j. ap (sumN _) bins-size ∙ bin-ext _ _ (λ i. 1) (λ i. 1) n j bin-entry (λ i h. refl))
 
-    pub squares-are : lineSquares line bins ≡ runSquares bits (depth - 8) source denoised start stride n
+    squares-are : lineSquares line bins ≡ runSquares bits (depth - 8) source denoised start stride n
     unfolding lineSquares
-    squares-are = fun-ext (λ j. ap (sumN _) size ∙ bin-ext _ _ _ _ n j bin-entry (λ i h. ap squareOf (entry n _ (L .line-is) i h)))
+    squares-are = fun-ext (λ j. ap (sumN _) bins-size ∙ bin-ext _ _ _ _ n j bin-entry (λ i h. ap squareOf (entry n _ (L .line-is) i h)))
+
+    -- what the lines add is what the run has
+    pub part-added : {count squares count′ squares′ : List ℕ} → Added bits count squares (lineCount bins) (lineSquares line bins) count′ squares′
+        → RunAdded bits depth source denoised start stride n count squares count′ squares′
+    part-added {count} {squares} A =
+        record { counts = A .counts ∙ ap (increased count (2 ^ bits)) counts-are; sums = A .sums ∙ ap (increased squares (2 ^ bits)) squares-are }
