@@ -1,23 +1,34 @@
--- An answer of the form `accepted n value (none n)`: a refused call's is `none` of its number, an accepted one's the value. And what the planes of an accepted call are: seen whole, with low samples. Assumes nothing.
+-- What the two calls answer: a refused one its number and zeros, an accepted one the figures of its planes, which are seen whole and have low samples. Assumes nothing.
 use mathlib.Core.Path.{_≡_, sym, ap, _∙_}
 use mathlib.Core.List.{List}
-use Prim.Native.Nat.{ℕ, _*_}
+use Prim.Native.Nat.{ℕ, _-_, _*_}
 use Rattle.frame.specs.Questions.{accepted}
-use Rattle.frame.specs.View.{whole}
+use Rattle.frame.specs.Calls.{pairRefusal, frameRefusal}
+use Rattle.frame.specs.Planes.{viewOf}
+use Rattle.frame.specs.View.{viewed, whole}
+use Rattle.frame.specs.declared.Shape.{Shape}
+use Rattle.frame.specs.declared.view.View.{View}
+use Rattle.frame.specs.declared.view.Component.the-variants.{Y, CbCr}
+use Rattle.frame.proofs.Accepted.{pair-call, frame-call}
 use Rattle.frame.proofs.Facts.{Small, Depth, Plane}
 use Rattle.frame.proofs.Refusal.{refused, granted}
 use Rattle.noise.proofs.Seen.{seen-all}
-use Rattle.noise.proofs.Accepted.{plane-of}
+use Rattle.noise.proofs.Accepted.{plane-of, chroma-small}
+use Rattle.profile.specs.Steps.{planeSigma16}
+use Rattle.profile.specs.Answers.{sigmaOf, noSigma, sigmaAnswer, lumaProfile, chromaProfile, estimateOf, noEstimate, estimateAnswer}
 use Rattle.profile.specs.Runs.{SeenAt}
+use Rattle.profile.specs.declared.LumaProfile.{LumaProfile}
+use Rattle.profile.specs.declared.ChromaProfile.{ChromaProfile}
 
+-- an answer of the form `accepted n value (none n)`
 module _ {A : Type 0} (value : A) (none : ℕ → A) {n m : ℕ} (e : n ≡ m) where
-  pub answer-refused : (n ≡ 0 → ⊥) → none n ≡ accepted m value (none m)
+  answer-refused : (n ≡ 0 → ⊥) → none n ≡ accepted m value (none m)
   answer-refused z = ap none e ∙ sym (refused m value (none m) (λ d. z (e ∙ d)))
 
-  pub answer-granted : n ≡ 0 → {got : A} → got ≡ value → got ≡ accepted m value (none m)
-  answer-granted z d = d ∙ sym (granted m value (none m) (sym e ∙ z))
+  answer-granted : n ≡ 0 → value ≡ accepted m value (none m)
+  answer-granted z = sym (granted m value (none m) (sym e ∙ z))
 
-pub seen-at : (w h : ℕ) {depth : ℕ} {source denoised : List ℕ} → Small w h → Depth depth → Plane (w * h) depth source → Plane (w * h) depth denoised
+seen-at : (w h : ℕ) {depth : ℕ} {source denoised : List ℕ} → Small w h → Depth depth → Plane (w * h) depth source → Plane (w * h) depth denoised
     → SeenAt depth (whole w h) source denoised
 seen-at w h {depth} {source} {denoised} S d p q =
     record {
@@ -27,3 +38,45 @@ seen-at w h {depth} {source} {denoised} S d p q =
       source-low = p .below;
       denoised-low = q .below;
     }
+
+-- ---- plane_sigma16
+module _ (w h depth : ℕ) (source denoised : List ℕ) {n : ℕ} (e : n ≡ pairRefusal w h depth source denoised) where
+  pub sigma-refused : (n ≡ 0 → ⊥) → noSigma n ≡ sigmaAnswer w h depth source denoised
+  unfolding sigmaAnswer
+  sigma-refused z = answer-refused (sigmaOf (planeSigma16 (depth - 8) (viewed (whole w h) source) (viewed (whole w h) denoised))) noSigma e z
+
+  pub sigma-accepted : n ≡ 0 → {v : ℕ} → v ≡ planeSigma16 (depth - 8) (viewed (whole w h) source) (viewed (whole w h) denoised) → sigmaOf v ≡ sigmaAnswer w h depth source denoised
+  unfolding sigmaAnswer
+  sigma-accepted z d = ap sigmaOf d ∙ answer-granted (sigmaOf (planeSigma16 (depth - 8) (viewed (whole w h) source) (viewed (whole w h) denoised))) noSigma e z
+
+  pub sigma-seen : n ≡ 0 → SeenAt depth (whole w h) source denoised
+  sigma-seen z = let c = pair-call w h depth source denoised (sym e ∙ z) in seen-at w h (c .size) (c .deep) (c .first) (c .second)
+
+-- ---- noise_estimate
+module _ (s : Shape) (y cb cr y-denoised cb-denoised cr-denoised : List ℕ) {n : ℕ} (e : n ≡ frameRefusal s y cb cr y-denoised cb-denoised cr-denoised) where
+  abbrev of-luma : View → LumaProfile
+  of-luma v = lumaProfile (s .depth) (viewed v y) (viewed v y-denoised)
+
+  abbrev of-cb : View → ChromaProfile
+  of-cb v = chromaProfile (s .depth) (viewed v cb) (viewed v cb-denoised)
+
+  abbrev of-cr : View → ChromaProfile
+  of-cr v = chromaProfile (s .depth) (viewed v cr) (viewed v cr-denoised)
+
+  pub estimate-refused : (n ≡ 0 → ⊥) → noEstimate n ≡ estimateAnswer s y cb cr y-denoised cb-denoised cr-denoised
+  unfolding estimateAnswer
+  estimate-refused z = answer-refused (estimateOf (of-luma (viewOf s Y)) (of-cb (viewOf s CbCr)) (of-cr (viewOf s CbCr))) noEstimate e z
+
+  module _ (z : n ≡ 0) {luma chroma : View} (l : luma ≡ viewOf s Y) (c : chroma ≡ viewOf s CbCr) where
+    pub estimate-accepted : {p : LumaProfile} {q r : ChromaProfile} → p ≡ of-luma luma → q ≡ of-cb chroma → r ≡ of-cr chroma → estimateOf p q r ≡ estimateAnswer s y cb cr y-denoised cb-denoised cr-denoised
+    unfolding estimateAnswer
+    estimate-accepted a b d =
+        (λ i. estimateOf ((a ∙ ap of-luma l) i) ((b ∙ ap of-cb c) i) ((d ∙ ap of-cr c) i))
+        ∙ answer-granted (estimateOf (of-luma (viewOf s Y)) (of-cb (viewOf s CbCr)) (of-cr (viewOf s CbCr))) noEstimate e z
+
+    pub estimate-seen : SeenAt (s .depth) luma y y-denoised × SeenAt (s .depth) chroma cb cb-denoised × SeenAt (s .depth) chroma cr cr-denoised
+    estimate-seen =
+        let f = frame-call s y cb cr y-denoised cb-denoised cr-denoised (sym e ∙ z) in
+        let d = f .shape .depth in
+        let k = chroma-small (s .format) (s .width) (s .height) (f .shape .size) in
+        rw (l, c) (seen-at _ _ (f .shape .size) d (f .source .y) (f .copy .y), seen-at _ _ k d (f .source .cb) (f .copy .cb), seen-at _ _ k d (f .source .cr) (f .copy .cr))

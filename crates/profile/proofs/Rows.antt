@@ -11,7 +11,8 @@ use lib.ListN.{length, getD}
 use Rattle.laws.specs.Limits.{planeLimit}
 use Rattle.laws.specs.Sums.{total, sumN}
 use Rattle.laws.proofs.SumsN.{sum-ext, sum-split, sum-rows, sum-bound, sum-more}
-use Rattle.laws.proofs.Table.{getD-tabulate}
+use Rattle.laws.specs.Table.{tabulate}
+use Rattle.laws.proofs.Table.{getD-tabulate, tabulate-same}
 use Rattle.frame.specs.View.{placeAt, viewed}
 use Rattle.frame.specs.declared.view.View.{View}
 use Rattle.frame.proofs.Viewed.{viewed-length, viewed-at}
@@ -134,19 +135,26 @@ module _ (bits depth : ℕ) (v : View) (source denoised : List ℕ) where
       ∙ sum-rows g (v .width) (v .height)
       ∙ ap (sumN g) (mul-comm (v .height) (v .width) ∙ sym (viewed-length v source))
 
-  pub counts-shown : (j : ℕ) → sumN (λ r. rowCount r j) (v .height) ≡ binCount bits shift (viewed v source) j
+  counts-shown : (j : ℕ) → sumN (λ r. rowCount r j) (v .height) ≡ binCount bits shift (viewed v source) j
   unfolding binCount
   counts-shown j =
       shown-sum (inBin (binAt bits shift source) j (λ i. 1)) (inBin (binAt bits shift (viewed v source)) j (λ i. 1))
       (λ r c l m k. cond (eqb (binOf bits shift (sym (viewed-at v source r c l m) k)) j) 1 0)
 
-  pub squares-shown : (j : ℕ) → sumN (λ r. rowSquares r j) (v .height) ≡ binSquares bits shift (viewed v source) (viewed v denoised) j
+  squares-shown : (j : ℕ) → sumN (λ r. rowSquares r j) (v .height) ≡ binSquares bits shift (viewed v source) (viewed v denoised) j
   unfolding binSquares
   squares-shown j =
       shown-sum (inBin (binAt bits shift source) j (square shift source denoised)) (inBin (binAt bits shift (viewed v source)) j (square shift (viewed v source) (viewed v denoised)))
       (λ r c l m k.
       cond (eqb (binOf bits shift (sym (viewed-at v source r c l m) k)) j)
       (squareOf (shifted shift (pos (sym (viewed-at v source r c l m) k) -ℤ pos (sym (viewed-at v denoised r c l m) k)))) 0)
+
+  -- all rows
+  pub rows-end : {count squares count′ squares′ : List ℕ} → Blank bits count squares → RowsAdded (v .height) count squares count′ squares′
+      → (count′ ≡ tabulate (2 ^ bits) (binCount bits shift (viewed v source))) × (squares′ ≡ tabulate (2 ^ bits) (binSquares bits shift (viewed v source) (viewed v denoised)))
+  rows-end B A =
+      let T = added-blank bits _ _ B A in
+      (T .0 ∙ tabulate-same (2 ^ bits) _ _ (λ j l. counts-shown j), T .1 ∙ tabulate-same (2 ^ bits) _ _ (λ j l. squares-shown j))
 
 -- what is shown has low samples
 pub shown-low : {depth : ℕ} {v : View} {source denoised : List ℕ} → SeenAt depth v source denoised → LowSamples depth (viewed v source) (viewed v denoised)

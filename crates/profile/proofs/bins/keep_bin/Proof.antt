@@ -46,9 +46,9 @@ loop-again c =
     let A = c .before .before .before .before .before .before .before .args in
     let i = c .before .before .before .before .before .loop .i in (
       fill-turn _ _ _ (c .before .before .before .before .before .loop .inv .0) (search needs)
-      (again (self (record { sfits = c .kept .ok })) .eq
-      ∙ c .kept .ensures
-      ∙ ap (λ (z : ℤ). cond (eqb (getD (A .bins .now) i 0) (A .j)) z (pos 0)) (again {w = w16} (self (record { sfits = c .before .kept-arg .given })) .eq)),
+          (again (self (record { sfits = c .kept .ok })) .eq
+          ∙ c .kept .ensures
+          ∙ ap (λ (z : ℤ). cond (eqb (getD (A .bins .now) i 0) (A .j)) z (pos 0)) (again {w = w16} (self (record { sfits = c .before .kept-arg .given })) .eq)),
       more (c .before .before),
     )
 
