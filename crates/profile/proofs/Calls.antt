@@ -10,7 +10,7 @@ use Rattle.laws.specs.Loop.{loop, turns}
 use Rattle.laws.specs.Limits.{sideLimit}
 use Rattle.frame.specs.Planes.{samplesOf}
 use Rattle.frame.specs.declared.Shape.{Shape}
-use Rattle.frame.specs.declared.view.Component.the-variants.{Y, CbCr}
+use Rattle.frame.specs.declared.view.Component.the-variants.{CbCr}
 use Rattle.frame.specs.Size.{chromaWidth, chromaHeight}
 use Rattle.frame.specs.Calls.{pairRefusal, frameRefusal}
 use Rattle.frame.proofs.Facts.{Small, Depth, Plane}

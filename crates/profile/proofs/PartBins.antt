@@ -10,7 +10,6 @@ use lib.ListN.{length, getD}
 use lib.Pow.{pow-mono}
 use Rattle.laws.specs.Sums.{sumN}
 use Rattle.laws.proofs.Table.{length-tabulate, getD-tabulate}
-use Rattle.noise.specs.Lines.{Places}
 use Rattle.noise.proofs.LineSums.{entry}
 use Rattle.profile.specs.Shifted.{shiftedNoise, squareOf, square}
 use Rattle.profile.specs.Bins.{binAt}

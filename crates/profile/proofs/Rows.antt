@@ -7,7 +7,7 @@ use native.Mathlib.Nat.{le-trans, le-of-eq, lt-of-lt-of-le, mul-le-mul, mul-comm
 use native.Mathlib.Omega.{arith}
 use lib.Dec.{eqb}
 use lib.IntN.{pos, _-ℤ_}
-use lib.ListN.{length, getD}
+use lib.ListN.{length}
 use Rattle.laws.specs.Limits.{planeLimit}
 use Rattle.laws.specs.Sums.{total, sumN}
 use Rattle.laws.proofs.SumsN.{sum-ext, sum-split, sum-rows, sum-bound, sum-more}

@@ -40,8 +40,8 @@ fn lines_at(
     for i in 0..line.len() {
         let k = start + i * stride;
         let x = src[k];
-        let y = den[k] as i16;
-        let d = x as i16 - y;
+        let y = den[k];
+        let d = x as i16 - y as i16;
         line[i] = d >> shift;
         bins[i] = x >> coarse;
     }

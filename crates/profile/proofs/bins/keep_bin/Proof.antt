@@ -6,7 +6,7 @@ use native.Mathlib.Omega.{arith}
 use borrow.Author.Needs.{needs}
 use lib.Dec.{eqb}
 use lib.IntN.{ℤ, pos}
-use lib.ListN.{length, getD, length-set}
+use lib.ListN.{length, getD}
 use mir.Syntax.{w16}
 use Rattle.laws.specs.Sums.{total, sumN}
 use Rattle.laws.proofs.Is.{again, self}

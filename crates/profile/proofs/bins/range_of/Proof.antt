@@ -1,7 +1,5 @@
 -- `profile::bins::range_of` meets its contract: the range of the bins passed. Assumes nothing.
-use mathlib.Core.Path.{sym, subst}
 use Prim.Native.Nat.{_-_}
-use native.Mathlib.Omega.{arith}
 use borrow.Author.Needs.{needs}
 use lib.ListN.{length}
 use Rattle.profile.proofs.Kept.{BetweenTo, between-starts, between-turn, between-ends}

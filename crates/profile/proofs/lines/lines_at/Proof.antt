@@ -27,36 +27,36 @@ abbrev μ-loop : tie.MeasureT-loop
 loop-holds : tie.Need-loop-holds Inv-loop μ-loop
 loop-holds c = (fill-starts _ _, fill-starts _ _)
 
--- in a turn, i is below the line's length
-in-line : (c : tie.In-loop Inv-loop μ-loop) → c .before .loop .i < length (c .before .before .args .line .now)
-in-line c = c .loop-test .taken
+-- in a turn, the place lies in the plane
+in-plane : (c : tie.In-loop Inv-loop μ-loop) → let A = c .before .before .args in A .start + c .before .loop .i * A .stride < length (A .src .now)
+in-plane c = source-in (c .before .before .pre .places) (c .loop-test .taken)
 
 mul-k : tie.Need-mul-k Inv-loop μ-loop
-mul-k c = omega (arith, source-in (c .before .before .pre .places) (in-line c))
+mul-k c = omega (arith, in-plane c)
 
 add-k : tie.Need-add-k Inv-loop μ-loop
-add-k c = omega (arith, source-in (c .before .before .pre .places) (in-line c))
+add-k c = omega (arith, in-plane c)
 
 mul-x : tie.Need-mul-x Inv-loop μ-loop
-mul-x c = omega (arith, source-in (c .before .before .pre .places) (in-line c))
+mul-x c = omega (arith, in-plane c)
 
 shared-slice-read-x : tie.Need-shared-slice-read-x Inv-loop μ-loop
-shared-slice-read-x c = source-in (c .before .before .before .pre .places) (in-line (c .before))
+shared-slice-read-x c = in-plane (c .before)
 
 mul-y : tie.Need-mul-y Inv-loop μ-loop
-mul-y c = omega (arith, source-in (c .before .before .before .pre .places) (in-line (c .before)))
+mul-y c = omega (arith, in-plane (c .before))
 
 shared-slice-read-y : tie.Need-shared-slice-read-y Inv-loop μ-loop
-shared-slice-read-y c = denoised-in (c .before .before .before .before .pre .places) (in-line (c .before .before))
-
-cast-y : tie.Need-cast-y Inv-loop μ-loop
-cast-y c = denoised-fits (c .before .before .before .before .pre .places) (in-line (c .before .before))
+shared-slice-read-y c = denoised-in (c .before .before .before .before .pre .places) (c .before .before .loop-test .taken)
 
 cast-d : tie.Need-cast-d Inv-loop μ-loop
-cast-d c = source-fits (c .before .before .before .before .pre .places) (in-line (c .before .before))
+cast-d c = source-fits (c .before .before .before .before .pre .places) (c .before .before .loop-test .taken)
+
+cast-d-2 : tie.Need-cast-d-2 Inv-loop μ-loop
+cast-d-2 c = denoised-fits (c .before .before .before .before .pre .places) (c .before .before .loop-test .taken)
 
 sub-d : tie.Need-sub-d Inv-loop μ-loop
-sub-d c = fits (noise-is (c .before .before .before .before .pre .places) (in-line (c .before .before)))
+sub-d c = fits (noise-is (c .before .before .before .before .pre .places) (c .before .before .loop-test .taken))
 
 cast-line : tie.Need-cast-line Inv-loop μ-loop
 cast-line c = small-fits (c .before .before .before .before .pre .shift-small)
@@ -69,14 +69,13 @@ loop-again : tie.Need-loop-again Inv-loop μ-loop
 loop-again c =
     let S = c .before .before .before .before in
     let H = c .before .before .before .loop in
-    let n = noise-is (S .pre .places) (in-line (c .before .before)) in
-    (fill-turn _ _ _ (H .inv .0) (in-line (c .before .before)) (again (moved (S .args .shift) n) .eq), fill-turn _ _ _ (H .inv .1) (search needs) refl)
+    let l = c .before .before .loop-test .taken in
+    (fill-turn _ _ _ (H .inv .0) l (again (moved (S .args .shift) (noise-is (S .pre .places) l)) .eq), fill-turn _ _ _ (H .inv .1) (search needs) refl)
 
 returns : tie.Need-returns Inv-loop μ-loop
 returns c =
-    let S = c .before .before in
     let H = c .before .loop in
-    record { line-is = fill-ends _ _ (H .inv .0) (search needs); bins-is = rw (S .pre .same) at (fill-ends _ _ (H .inv .1) (search needs)) }
+    record { line-is = fill-ends _ _ (H .inv .0) (search needs); bins-is = rw (c .before .before .pre .same) at (fill-ends _ _ (H .inv .1) (search needs)) }
 
 pub lines-at-spec : {M : Type 1} → statement M
 lines-at-spec =
@@ -91,8 +90,8 @@ lines-at-spec =
     shared-slice-read-x
     mul-y
     shared-slice-read-y
-    cast-y
     cast-d
+    cast-d-2
     sub-d
     cast-line
     (λ c. search needs)

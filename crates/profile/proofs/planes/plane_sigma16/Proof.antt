@@ -1,9 +1,6 @@
 -- `profile::planes::plane_sigma16` meets its contract: a refusal, or the figure of a profile with one bin. Assumes nothing.
-use mathlib.Core.Path.{_∙_}
 use Prim.Native.Nat.{_-_}
 use borrow.Author.Needs.{needs}
-use Rattle.frame.specs.View.{viewed, whole}
-use Rattle.profile.proofs.AddUp.{profile-plane}
 use Rattle.profile.proofs.Answered.{sigma-refused, sigma-accepted, sigma-seen}
 use Rattle.profile.proofs.planes.plane_sigma16.Statement.{statement}
 use Rattle.profile.proofs.planes.plane_sigma16.Tie as tie
@@ -17,11 +14,7 @@ plane-profile-requires c κs =
     (sigma-seen (A .width) (A .height) (A .depth) (A .src .now) (A .den .now) (c .before .before .before .before .pair-refusal .ensures) (c .before .before .before .if1 .left), search needs, search needs)
 
 returns-2 : tie.Need-returns-2
-returns-2 c =
-    let A = c .before .before .before .before .before .before .before .before .before .before .before .args in
-    let view = whole (A .width) (A .height) in
-    sigma-accepted (A .width) (A .height) (A .depth) (A .src .now) (A .den .now) (c .before .before .before .before .before .before .before .before .pair-refusal .ensures) (c .before .before .before .before .before .before .before .if1 .left)
-    (c .before .before .before .plane-profile .ensures .plane-is ∙ profile-plane 0 (A .depth - 8) (viewed view (A .src .now)) (viewed view (A .den .now)) 1)
+returns-2 c = let A = c .before .before .before .before .before .before .before .before .before .before .before .args in sigma-accepted (A .width) (A .height) (A .depth) (A .src .now) (A .den .now) (c .before .before .before .before .before .before .before .before .pair-refusal .ensures) (c .before .before .before .before .before .before .before .if1 .left) (c .before .before .before .plane-profile .ensures)
 
 pub plane-sigma16-spec : {M : Type 1} → statement M
 plane-sigma16-spec =

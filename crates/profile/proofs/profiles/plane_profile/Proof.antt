@@ -1,14 +1,13 @@
 -- `profile::profiles::plane_profile` meets its contract: the tables have the bins, and the figures follow from them. Assumes nothing.
 use mathlib.Core.Path.{sym, ap, _∙_}
-use Prim.Native.Nat.{ℕ, _-_, _*_, _^_}
+use Prim.Native.Nat.{ℕ, _-_, _*_}
 use borrow.Author.Needs.{needs}
-use lib.ListN.{length}
-use Rattle.laws.proofs.Table.{length-tabulate}
 use Rattle.frame.specs.View.{viewed}
 use Rattle.frame.proofs.Size.{area-fits}
 use Rattle.frame.proofs.Viewed.{viewed-length}
 use Rattle.float.specs.Steps.{sigma16Of}
 use Rattle.profile.proofs.Figures.{bins-fit, figures}
+use Rattle.profile.proofs.Adding.{blank-tables}
 use Rattle.profile.proofs.Rows.{shown-low}
 use Rattle.profile.proofs.profiles.plane_profile.Statement.{statement}
 use Rattle.profile.proofs.profiles.plane_profile.Tie as tie
@@ -22,9 +21,9 @@ sum-of-requires c κs = let S = c .before .before .before .before .before .befor
 fill-sigma16-requires : tie.Need-fill-sigma16-requires
 fill-sigma16-requires c κs =
     let S = c .before .before .before .before .before .before .before .before .before .before .before .before .before .before .before .before .before .before .before .before in
-    let E = c .before .before .before .before .before .before .before .before .before .before .before .before .view-bins .ensures in
-    let n = 2 ^ S .args .bits in
-    (ap length (E .0) ∙ length-tabulate n _ ∙ sym (S .pre .2), ap length (E .1) ∙ length-tabulate n _ ∙ sym (S .pre .2))
+    let K = c .before .before .before .before .before .before .before .before .before .before .before .before .view-bins .kept .1 .1 .1 .1 .1 in
+    let T = blank-tables (S .pre .1) in
+    (K .0 ∙ T .counts ∙ sym (S .pre .2), K .1 .0 ∙ T .sums ∙ sym (S .pre .2))
 
 returns : tie.Need-returns
 returns c =
