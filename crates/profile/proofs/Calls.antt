@@ -20,8 +20,8 @@ use Rattle.frame.proofs.Accepted.{pair-call, frame-call}
 use Rattle.frame.proofs.Refusal.{refused, granted}
 use Rattle.noise.proofs.Accepted.{chroma-small}
 use Rattle.float.specs.Steps.{sigma16Of}
-use Rattle.profile.specs.Steps.{totals, sigmaOfBin, profile}
-use Rattle.profile.specs.Answers.{sigmaAnswer, chromaOf, noProfile, lumaProfile, chromaProfile, estimateOf, noEstimate, estimateAnswer}
+use Rattle.profile.specs.Steps.{planeSigma16, totals, sigmaOfBin, profile}
+use Rattle.profile.specs.Answers.{sigmaOf, sigmaAnswer, chromaOf, noProfile, lumaProfile, chromaProfile, estimateOf, noEstimate, estimateAnswer}
 use Rattle.profile.specs.Words.{LowSamples, PlaneInWords, EstimateInWords}
 use Rattle.profile.specs.declared.NoiseEstimate.{NoiseEstimate}
 use Rattle.profile.proofs.AsWorded.{plane-in-words, in-words}
@@ -36,11 +36,18 @@ low S d p q =
       denoised-low = λ i l. q .below i;
     }
 
-pub sigma-worded : (w h depth : ℕ) (a b : List ℕ) → pairRefusal w h depth a b ≡ 0 → PlaneInWords (depth - 8) a b (sigmaAnswer w h depth a b .sigma16)
+-- an accepted call's figure is that of the planes themselves: the whole view shows them
+pub sigma-is : (w h depth : ℕ) (a b : List ℕ) → pairRefusal w h depth a b ≡ 0 → sigmaAnswer w h depth a b ≡ sigmaOf (planeSigma16 (depth - 8) a b)
 unfolding sigmaAnswer
+sigma-is w h depth a b e =
+    let c = pair-call w h depth a b e in
+    granted (pairRefusal w h depth a b) _ _ e
+    ∙ (λ i. sigmaOf (planeSigma16 (depth - 8) (viewed-whole w h a (c .first .samples) i) (viewed-whole w h b (c .second .samples) i)))
+
+pub sigma-worded : (w h depth : ℕ) (a b : List ℕ) → pairRefusal w h depth a b ≡ 0 → PlaneInWords (depth - 8) a b (sigmaAnswer w h depth a b .sigma16)
 sigma-worded w h depth a b e =
     let c = pair-call w h depth a b e in
-    rw (e, viewed-whole w h a (c .first .samples), viewed-whole w h b (c .second .samples)) (plane-in-words (low (c .size) (c .deep) (c .first) (c .second)))
+    rw (sigma-is w h depth a b e) (plane-in-words (low (c .size) (c .deep) (c .first) (c .second)))
 
 module _ (s : Shape) (y cb cr y-denoised cb-denoised cr-denoised : List ℕ) where
   abbrev number : ℕ
@@ -49,9 +56,9 @@ module _ (s : Shape) (y cb cr y-denoised cb-denoised cr-denoised : List ℕ) whe
   abbrev answer : NoiseEstimate
   answer = estimateAnswer s y cb cr y-denoised cb-denoised cr-denoised
 
-  accepted-is : number ≡ 0 → answer ≡ estimateOf (lumaProfile (s .depth) y y-denoised) (chromaProfile (s .depth) cb cb-denoised) (chromaProfile (s .depth) cr cr-denoised)
+  pub estimate-is : number ≡ 0 → answer ≡ estimateOf (lumaProfile (s .depth) y y-denoised) (chromaProfile (s .depth) cb cb-denoised) (chromaProfile (s .depth) cr cr-denoised)
   unfolding estimateAnswer
-  accepted-is e =
+  estimate-is e =
       let c = frame-call s y cb cr y-denoised cb-denoised cr-denoised e in
       let luma = viewed-whole (s .width) (s .height) in
       let chroma = viewed-whole (chromaWidth (s .format) (s .width)) (chromaHeight (s .format) (s .height)) in
@@ -72,7 +79,7 @@ module _ (s : Shape) (y cb cr y-denoised cb-denoised cr-denoised : List ℕ) whe
         y-profile = profile 3 64 (s .depth - 8) y y-denoised;
         cb-profile = profile 2 32 (s .depth - 8) cb cb-denoised;
         cr-profile = profile 2 32 (s .depth - 8) cr cr-denoised;
-        answer = accepted-is e;
+        answer = estimate-is e;
         y-words = in-words (low luma d (c .source .y) (c .copy .y)) 3 64 (lit< tt);
         cb-words = in-words (low chroma d (c .source .cb) (c .copy .cb)) 2 32 (lit< tt);
         cr-words = in-words (low chroma d (c .source .cr) (c .copy .cr)) 2 32 (lit< tt);
@@ -89,8 +96,8 @@ pub cr-apart : (s : Shape) (y cb cr other y-denoised cb-denoised cr-denoised oth
     → (estimateAnswer s y cb cr y-denoised cb-denoised cr-denoised .luma ≡ estimateAnswer s y cb other y-denoised cb-denoised other-denoised .luma)
     × (estimateAnswer s y cb cr y-denoised cb-denoised cr-denoised .cb ≡ estimateAnswer s y cb other y-denoised cb-denoised other-denoised .cb)
 cr-apart s y cb cr other y-denoised cb-denoised cr-denoised other-denoised e f =
-    let a = accepted-is s y cb cr y-denoised cb-denoised cr-denoised e in
-    let b = accepted-is s y cb other y-denoised cb-denoised other-denoised f in
+    let a = estimate-is s y cb cr y-denoised cb-denoised cr-denoised e in
+    let b = estimate-is s y cb other y-denoised cb-denoised other-denoised f in
     ((λ i. (a i) .luma) ∙ sym (λ i. (b i) .luma), (λ i. (a i) .cb) ∙ sym (λ i. (b i) .cb))
 
 -- ---- "Monochrome gives chroma zeros."
@@ -109,7 +116,7 @@ pub monochrome : (s : Shape) (y cb cr y-denoised cb-denoised cr-denoised : List 
 unfolding chromaWidth chromaHeight
 monochrome s y cb cr y-denoised cb-denoised cr-denoised m e =
     let c = frame-call s y cb cr y-denoised cb-denoised cr-denoised e in
-    let a = accepted-is s y cb cr y-denoised cb-denoised cr-denoised e in
+    let a = estimate-is s y cb cr y-denoised cb-denoised cr-denoised e in
     ((λ i. (a i) .cb) ∙ gone cb cb-denoised (c .source .cb .samples), (λ i. (a i) .cr) ∙ gone cr cr-denoised (c .source .cr .samples))
   where
     no-samples : samplesOf s CbCr ≡ 0

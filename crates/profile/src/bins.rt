@@ -43,8 +43,8 @@ fn greater(a: u16, b: u16) -> u16
 fn range_of(bins: &[u16]) -> Range
     ensures { λ r. ⌜ Between (now (bins .entry)) (r .least) (r .greatest) ⌝ }
 {
-    let mut least: u16 = 65535;
-    let mut greatest: u16 = 0;
+    let mut least = 65535;
+    let mut greatest = 0;
     for i in 0..bins.len() {
         let bin = bins[i];
         least = lesser(least, bin);
@@ -72,7 +72,7 @@ fn keep_bin(line: &[i16], bins: &[u16], j: u16, own: &mut [i16]) -> u16
     requires { ⌜ (length (now line) ≡ length (now own)) × (length (now bins) ≡ length (now own)) × (length (now own) ≤ partLimit) ⌝ }
     ensures { λ r. ⌜ (r ≡ lineCount (now (bins .entry)) j) × (now (own .exit) ≡ tabulate (length (now (own .entry))) (λ i. cond (eqb (getD (now (bins .entry)) i 0) j) (at (now (line .entry)) i) (pos 0))) ⌝ }
 {
-    let mut count: u16 = 0;
+    let mut count = 0;
     for i in 0..own.len() {
         let bin = bins[i];
         count = count + hit(bin, j);

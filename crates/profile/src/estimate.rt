@@ -16,9 +16,9 @@ fn luma_profile(src: &[u16], den: &[u16], view: View, depth: u8) -> LumaProfile
     requires { ⌜ SeenAt depth view (now src) (now den) ⌝ }
     ensures { λ r. ⌜ r ≡ lumaProfile depth (viewed view (now (src .entry))) (viewed view (now (den .entry))) ⌝ }
 {
-    let mut bin_sigma16 = [0u64; 8];
-    let mut bin_count = [0u64; 8];
-    let mut bin_squares = [0u64; 8];
+    let mut bin_sigma16 = [0; 8];
+    let mut bin_count = [0; 8];
+    let mut bin_squares = [0; 8];
     let sigma16 = plane_profile(
         src,
         den,
@@ -43,9 +43,9 @@ fn chroma_profile(src: &[u16], den: &[u16], view: View, depth: u8) -> ChromaProf
     requires { ⌜ SeenAt depth view (now src) (now den) ⌝ }
     ensures { λ r. ⌜ r ≡ chromaProfile depth (viewed view (now (src .entry))) (viewed view (now (den .entry))) ⌝ }
 {
-    let mut bin_sigma16 = [0u64; 4];
-    let mut bin_count = [0u64; 4];
-    let mut bin_squares = [0u64; 4];
+    let mut bin_sigma16 = [0; 4];
+    let mut bin_count = [0; 4];
+    let mut bin_squares = [0; 4];
     let sigma16 = plane_profile(
         src,
         den,

@@ -23,9 +23,9 @@ pub fn plane_sigma16(src: &[u16], den: &[u16], width: usize, height: usize, dept
         width,
         height,
     };
-    let mut sigma = [0u64; 1];
-    let mut count = [0u64; 1];
-    let mut squares = [0u64; 1];
+    let mut sigma = [0; 1];
+    let mut count = [0; 1];
+    let mut squares = [0; 1];
     let sigma16 = plane_profile(
         src,
         den,

@@ -86,7 +86,7 @@ fn sum_of(xs: &[u64]) -> u64
     requires { ⌜ sumOf (now xs) < 2 ^ 64 ⌝ }
     ensures { λ r. ⌜ r ≡ sumOf (now (xs .entry)) ⌝ }
 {
-    let mut sum: u64 = 0;
+    let mut sum = 0;
     for i in 0..xs.len() {
         sum = sum + xs[i];
     }
