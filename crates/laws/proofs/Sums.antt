@@ -2,14 +2,14 @@
 use mathlib.Core.Path.{_≡_, refl, sym, ap, _∙_}
 use mathlib.Core.List.{List, [], _∷_, _++_, map}
 use Prim.Native.Nat.{ℕ, zero, suc, _+_, _-_, _*_, _≤_, _<_, zero-le}
-use native.Mathlib.Nat.{le-step, le-trans, le-of-eq, lt-suc-self, zero-add, add-zero, add-suc, add-comm, sub-zero, add-le-add, zero-mul, suc-mul}
+use native.Mathlib.Nat.{le-step, le-trans, le-of-eq, lt-suc-self, zero-add, add-zero, add-suc, add-comm, sub-zero, add-le-add, suc-mul}
 use native.Mathlib.Numerals.{add-one}
 use lib.IntN.{ℤ, pos, negℤ, natAbs, _+ℤ_, _-ℤ_, _*ℤ_, +ℤ-idl, +ℤ-idr, +ℤ-assoc, +ℤ-comm, +ℤ-negℤ-cancel, *ℤ-zero, zero-*ℤ}
 use lib.Signed.{_≤ℤ_, ≤ℤ-refl}
 use Rattle.laws.specs.Sums.{total, sumTo, span, sumZ}
 use Rattle.laws.specs.Table.{tabulate, range}
 use Rattle.laws.proofs.Table.{map-tabulate}
-use Rattle.laws.proofs.Totals.{total-more, total-ext, total-split, total-add}
+use Rattle.laws.proofs.Totals.{total-more, total-ext, total-split, total-add, total-rows}
 use Rattle.laws.proofs.Whole.{abs-add, add-nonneg, swap-middle, mul-sum, sum-mul}
 
 pub sum-more : (g : ℕ → ℤ) (n : ℕ) → sumTo g n +ℤ g n ≡ sumTo g (n + 1)
@@ -69,12 +69,7 @@ sum-nonneg g (suc n) h = add-nonneg (sumTo g n) (g n) (sum-nonneg g n (λ i l. h
 
 -- h rows of w terms each are h * w terms
 pub sum-rows : (g : ℕ → ℤ) (w h : ℕ) → sumTo (λ r. span g (r * w) w) h ≡ sumTo g (h * w)
-unfolding total
-sum-rows g w zero = ap (λ (m : ℕ). sumTo g m) (sym (zero-mul w))
-sum-rows g w (suc h) =
-    ap (λ (z : ℤ). z +ℤ span g (h * w) w) (sum-rows g w h)
-    ∙ sym (sum-split g (h * w) w)
-    ∙ ap (λ (m : ℕ). sumTo g m) (sym (suc-mul h w))
+sum-rows g w h = total-rows _+ℤ_ (pos 0) +ℤ-assoc +ℤ-idr g w h
 
 -- ---- the sum of a list
 pub sum-append : (xs ys : List ℤ) → sumZ (xs ++ ys) ≡ sumZ xs +ℤ sumZ ys

@@ -5,7 +5,7 @@ use native.Mathlib.Nat.{le-step, lt-suc-self, add-zero, add-assoc}
 use native.Mathlib.Omega.{arith}
 use lib.IntN.{ℤ, pos, _+ℤ_}
 use Rattle.laws.specs.Sums.{total, sumTo, sumN}
-use Rattle.laws.proofs.Totals.{total-more, total-ext, total-split, total-add, total-swap}
+use Rattle.laws.proofs.Totals.{total-more, total-ext, total-split, total-add, total-swap, total-rows}
 
 pub sum-more : (f : ℕ → ℕ) (n : ℕ) → sumN f n + f n ≡ sumN f (n + 1)
 sum-more f n = total-more _+_ 0 f n
@@ -53,3 +53,7 @@ pub sum-pos : (f : ℕ → ℕ) (n : ℕ) → sumTo (λ i. pos (f i)) n ≡ pos 
 unfolding total
 sum-pos f zero = refl
 sum-pos f (suc n) = ap (λ (z : ℤ). z +ℤ pos (f n)) (sum-pos f n)
+
+-- h rows of w terms each are h * w terms
+pub sum-rows : (g : ℕ → ℕ) (w h : ℕ) → sumN (λ r. sumN (λ c. g (r * w + c)) w) h ≡ sumN g (h * w)
+sum-rows g w h = total-rows _+_ 0 add-assoc add-zero g w h

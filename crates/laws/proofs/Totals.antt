@@ -1,7 +1,7 @@
--- Totals under any sum: one term more, equal terms, parts, totals of totals and their order. Each by induction on the number of terms, from the laws of that sum. Assumes nothing.
+-- Totals under any sum: one term more, equal terms, parts, totals of totals and their order, rows. Each by induction on the number of terms, from the laws of that sum. Assumes nothing.
 use mathlib.Core.Path.{_≡_, refl, sym, ap, _∙_}
-use Prim.Native.Nat.{ℕ, zero, suc, _+_, _<_}
-use native.Mathlib.Nat.{le-step, lt-suc-self, add-zero, add-suc}
+use Prim.Native.Nat.{ℕ, zero, suc, _+_, _*_, _<_}
+use native.Mathlib.Nat.{le-step, lt-suc-self, add-zero, add-suc, zero-mul, suc-mul}
 use native.Mathlib.Numerals.{add-one}
 use Rattle.laws.specs.Sums.{total}
 
@@ -44,3 +44,13 @@ module _ {A : Type 0} (add : A → A → A) (e : A) where
     total-swap f zero n = sym (total-none n)
     total-swap f (suc m) n =
         ap (λ (x : A). add x (total add e (f m) n)) (total-swap f m n) ∙ sym (total-add (λ i. total add e (λ j. f j i) m) (f m) n)
+
+  -- h rows of w terms each are h * w terms
+  pub total-rows : ((x y z : A) → add (add x y) z ≡ add x (add y z)) → ((x : A) → add x e ≡ x)
+      → (g : ℕ → A) (w h : ℕ) → total add e (λ r. total add e (λ c. g (r * w + c)) w) h ≡ total add e g (h * w)
+  unfolding total
+  total-rows assoc idr g w zero = ap (λ (m : ℕ). total add e g m) (sym (zero-mul w))
+  total-rows assoc idr g w (suc h) =
+      ap (λ (x : A). add x (total add e (λ c. g (h * w + c)) w)) (total-rows assoc idr g w h)
+      ∙ sym (total-split assoc idr g (h * w) w)
+      ∙ ap (λ (m : ℕ). total add e g m) (sym (suc-mul h w))

@@ -1,53 +1,88 @@
--- An answer, refused or accepted, is the definition's. Assumes nothing.
-use mathlib.Core.Path.{_≡_, sym, _∙_}
+-- What the two calls answer: a refused one its number and zeros, an accepted one the figures of its planes, which are seen whole and have low samples. Assumes nothing.
+use mathlib.Core.Path.{_≡_, sym, ap, _∙_}
 use mathlib.Core.List.{List}
-use Prim.Native.Nat.{ℕ, _-_}
-use Rattle.frame.specs.declared.Shape.{Shape}
+use Prim.Native.Nat.{ℕ, _-_, _*_}
 use Rattle.frame.specs.Questions.{accepted}
 use Rattle.frame.specs.Calls.{pairRefusal, frameRefusal}
+use Rattle.frame.specs.Planes.{viewOf}
+use Rattle.frame.specs.View.{viewed, whole}
+use Rattle.frame.specs.declared.Shape.{Shape}
+use Rattle.frame.specs.declared.view.View.{View}
+use Rattle.frame.specs.declared.view.Component.the-variants.{Y, CbCr}
+use Rattle.frame.proofs.Accepted.{pair-call, frame-call}
+use Rattle.frame.proofs.Facts.{Small, Depth, Plane}
 use Rattle.frame.proofs.Refusal.{refused, granted}
-use Rattle.profile.specs.Steps.{planeSigma16}
-use Rattle.profile.specs.Answers.{sigmaAnswer, lumaOf, chromaOf, noProfile, lumaProfile, chromaProfile, noEstimate, estimateAnswer}
-use Rattle.profile.specs.declared.Sigma.{Sigma}
+use Rattle.noise.proofs.Seen.{seen-all}
+use Rattle.noise.proofs.Accepted.{plane-of, chroma-small}
+use Rattle.profile.specs.Steps.{planeSigma16, profile}
+use Rattle.profile.specs.Answers.{sigmaOf, noSigma, sigmaAnswer, lumaProfile, chromaProfile, estimateOf, noEstimate, estimateAnswer}
+use Rattle.profile.specs.Runs.{SeenAt, Profiled}
 use Rattle.profile.specs.declared.LumaProfile.{LumaProfile}
 use Rattle.profile.specs.declared.ChromaProfile.{ChromaProfile}
-use Rattle.profile.specs.declared.NoiseEstimate.{NoiseEstimate}
+use Rattle.profile.proofs.AddUp.{profile-plane}
 
-module _ (w h depth : ℕ) (a b : List ℕ) where
-  abbrev sigmaOf : ℕ → ℕ → Sigma
-  sigmaOf n v = record { refusal = n; sigma16 = v }
+-- an answer of the form `accepted n value (none n)`
+module _ {A : Type 0} (value : A) (none : ℕ → A) {n m : ℕ} (e : n ≡ m) where
+  answer-refused : (n ≡ 0 → ⊥) → none n ≡ accepted m value (none m)
+  answer-refused z = ap none e ∙ sym (refused m value (none m) (λ d. z (e ∙ d)))
 
-  pub sigma-refused : {n : ℕ} → n ≡ pairRefusal w h depth a b → (n ≡ 0 → ⊥) → sigmaOf n 0 ≡ sigmaAnswer w h depth a b
+  answer-granted : n ≡ 0 → value ≡ accepted m value (none m)
+  answer-granted z = sym (granted m value (none m) (sym e ∙ z))
+
+seen-at : (w h : ℕ) {depth : ℕ} {source denoised : List ℕ} → Small w h → Depth depth → Plane (w * h) depth source → Plane (w * h) depth denoised
+    → SeenAt depth (whole w h) source denoised
+seen-at w h {depth} {source} {denoised} S d p q =
+    record {
+      least-depth = d .least;
+      most-depth = d .most;
+      seen = seen-all (plane-of w h depth source denoised p q) (S .wide) (S .high);
+      source-low = p .below;
+      denoised-low = q .below;
+    }
+
+-- ---- plane_sigma16
+module _ (w h depth : ℕ) (source denoised : List ℕ) {n : ℕ} (e : n ≡ pairRefusal w h depth source denoised) where
+  pub sigma-refused : (n ≡ 0 → ⊥) → noSigma n ≡ sigmaAnswer w h depth source denoised
   unfolding sigmaAnswer
-  sigma-refused e z = λ i. sigmaOf (e i) (sym (refused (pairRefusal w h depth a b) (planeSigma16 (depth - 8) a b) 0 (λ d. z (e ∙ d))) i)
+  sigma-refused z = answer-refused (sigmaOf (planeSigma16 (depth - 8) (viewed (whole w h) source) (viewed (whole w h) denoised))) noSigma e z
 
-  pub sigma-accepted : {v : ℕ} → pairRefusal w h depth a b ≡ 0 → v ≡ planeSigma16 (depth - 8) a b → sigmaOf 0 v ≡ sigmaAnswer w h depth a b
+  -- sigma16 of a profile with one bin
+  pub sigma-accepted : n ≡ 0 → {v : ℕ} {sigma count squares : List ℕ}
+      → Profiled (profile 0 1 (depth - 8) (viewed (whole w h) source) (viewed (whole w h) denoised)) v sigma count squares → sigmaOf v ≡ sigmaAnswer w h depth source denoised
   unfolding sigmaAnswer
-  sigma-accepted e p =
-      λ i. sigmaOf (sym e i) ((p ∙ sym (granted (pairRefusal w h depth a b) (planeSigma16 (depth - 8) a b) 0 e)) i)
+  sigma-accepted z P =
+      let a = viewed (whole w h) source in
+      let b = viewed (whole w h) denoised in
+      ap sigmaOf (P .plane-is ∙ profile-plane 0 (depth - 8) a b 1) ∙ answer-granted (sigmaOf (planeSigma16 (depth - 8) a b)) noSigma e z
 
-module _ (s : Shape) (y cb cr y′ cb′ cr′ : List ℕ) where
-  abbrev number : ℕ
-  number = frameRefusal s y cb cr y′ cb′ cr′
+  pub sigma-seen : n ≡ 0 → SeenAt depth (whole w h) source denoised
+  sigma-seen z = let c = pair-call w h depth source denoised (sym e ∙ z) in seen-at w h (c .size) (c .deep) (c .first) (c .second)
 
-  abbrev estimateOf : ℕ → LumaProfile → ChromaProfile → ChromaProfile → NoiseEstimate
-  estimateOf n l b r = record { refusal = n; luma = l; cb = b; cr = r }
+-- ---- noise_estimate
+module _ (s : Shape) (y cb cr y-denoised cb-denoised cr-denoised : List ℕ) {n : ℕ} (e : n ≡ frameRefusal s y cb cr y-denoised cb-denoised cr-denoised) where
+  abbrev of-luma : View → LumaProfile
+  of-luma v = lumaProfile (s .depth) (viewed v y) (viewed v y-denoised)
 
-  pub estimate-refused : {n : ℕ} → n ≡ number → (n ≡ 0 → ⊥) → noEstimate n ≡ estimateAnswer s y cb cr y′ cb′ cr′
+  abbrev of-cb : View → ChromaProfile
+  of-cb v = chromaProfile (s .depth) (viewed v cb) (viewed v cb-denoised)
+
+  abbrev of-cr : View → ChromaProfile
+  of-cr v = chromaProfile (s .depth) (viewed v cr) (viewed v cr-denoised)
+
+  pub estimate-refused : (n ≡ 0 → ⊥) → noEstimate n ≡ estimateAnswer s y cb cr y-denoised cb-denoised cr-denoised
   unfolding estimateAnswer
-  estimate-refused e z =
-      λ i.
-      estimateOf (e i) (none (lumaProfile (s .depth) y y′) (lumaOf (noProfile 8)) i) (none (chromaProfile (s .depth) cb cb′) (chromaOf (noProfile 4)) i)
-      (none (chromaProfile (s .depth) cr cr′) (chromaOf (noProfile 4)) i)
-    where
-      none : {A : Type 0} (new old : A) → old ≡ accepted number new old
-      none new old = sym (refused number new old (λ d. z (e ∙ d)))
+  estimate-refused z = answer-refused (estimateOf (of-luma (viewOf s Y)) (of-cb (viewOf s CbCr)) (of-cr (viewOf s CbCr))) noEstimate e z
 
-  pub estimate-accepted : {l : LumaProfile} {b r : ChromaProfile} → number ≡ 0
-      → l ≡ lumaProfile (s .depth) y y′ → b ≡ chromaProfile (s .depth) cb cb′ → r ≡ chromaProfile (s .depth) cr cr′
-      → estimateOf 0 l b r ≡ estimateAnswer s y cb cr y′ cb′ cr′
-  unfolding estimateAnswer
-  estimate-accepted e p q t = λ i. estimateOf (sym e i) (some p (lumaOf (noProfile 8)) i) (some q (chromaOf (noProfile 4)) i) (some t (chromaOf (noProfile 4)) i)
-    where
-      some : {A : Type 0} {got new : A} → got ≡ new → (old : A) → got ≡ accepted number new old
-      some {new = new} p old = p ∙ sym (granted number new old e)
+  module _ (z : n ≡ 0) {luma chroma : View} (l : luma ≡ viewOf s Y) (c : chroma ≡ viewOf s CbCr) where
+    pub estimate-accepted : {p : LumaProfile} {q r : ChromaProfile} → p ≡ of-luma luma → q ≡ of-cb chroma → r ≡ of-cr chroma → estimateOf p q r ≡ estimateAnswer s y cb cr y-denoised cb-denoised cr-denoised
+    unfolding estimateAnswer
+    estimate-accepted a b d =
+        (λ i. estimateOf ((a ∙ ap of-luma l) i) ((b ∙ ap of-cb c) i) ((d ∙ ap of-cr c) i))
+        ∙ answer-granted (estimateOf (of-luma (viewOf s Y)) (of-cb (viewOf s CbCr)) (of-cr (viewOf s CbCr))) noEstimate e z
+
+    pub estimate-seen : SeenAt (s .depth) luma y y-denoised × SeenAt (s .depth) chroma cb cb-denoised × SeenAt (s .depth) chroma cr cr-denoised
+    estimate-seen =
+        let f = frame-call s y cb cr y-denoised cb-denoised cr-denoised (sym e ∙ z) in
+        let d = f .shape .depth in
+        let k = chroma-small (s .format) (s .width) (s .height) (f .shape .size) in
+        rw (l, c) (seen-at _ _ (f .shape .size) d (f .source .y) (f .copy .y), seen-at _ _ k d (f .source .cb) (f .copy .cb), seen-at _ _ k d (f .source .cr) (f .copy .cr))

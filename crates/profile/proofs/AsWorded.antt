@@ -1,4 +1,4 @@
--- The Rust's steps are what the scope says of a profile and of a plane's sigma16, for any number of bins: of samples below 2 ^ depth, at most 2 ^ 24 of them. Assumes nothing.
+-- The Rust's steps are what the scope says of a profile and of a plane's sigma16, for any number of bins: of samples below 2 ^ depth, no more than a plane has. Assumes nothing.
 use mathlib.Core.Path.{_≡_, _∙_}
 use mathlib.Core.List.{List}
 use Prim.Native.Nat.{ℕ, _-_, _^_, _<_}
@@ -14,16 +14,14 @@ use Rattle.laws.specs.Sums.{sumN}
 use Rattle.profile.specs.Shifted.{square}
 use Rattle.profile.specs.Bins.{binAt, inBin, binCount, binSquares}
 use Rattle.profile.specs.Steps.{planeSquares, planeSigma16, totals, leastCount, sigmaOfBin, profile}
-use Rattle.profile.specs.Words.{PlaneInWords, InWords}
-use Rattle.profile.specs.Parts.{Pair}
+use Rattle.profile.specs.Words.{LowSamples, PlaneInWords, InWords}
+use Rattle.profile.specs.Parts.{squareLimit}
 use Rattle.profile.proofs.Binning.{count-le, bin-le}
-use Rattle.profile.proofs.Lows.{Low, ranges}
-use Rattle.profile.proofs.PlaneParts.{low-to, square-small}
-use Rattle.profile.proofs.StepSums.{plane-sum, totals-are}
+use Rattle.profile.proofs.StepSums.{plane-sum}
 use Rattle.profile.proofs.AddUp.{counts-add-up, squares-add-up, profile-plane}
-use Rattle.profile.proofs.Figures.{plane-small}
+use Rattle.profile.proofs.Figures.{totals-count, totals-squares, ranges, square-small, plane-small}
 
-module _ {depth : ℕ} {source denoised : List ℕ} (P : Pair (2 ^ 24) depth source denoised) (L : Low depth source denoised) where
+module _ {depth : ℕ} {source denoised : List ℕ} (L : LowSamples depth source denoised) where
   abbrev shift : ℕ
   shift = depth - 8
 
@@ -37,18 +35,16 @@ module _ {depth : ℕ} {source denoised : List ℕ} (P : Pair (2 ^ 24) depth sou
   unfolding planeSigma16
   plane-in-words =
       record {
-        range = λ i l. ranges P L i;
-        nearest = λ h. rw (← plane-sum shift source denoised) (sigma16-nearest (planeSquares shift source denoised) n h (P .few) (plane-small P L));
+        range = ranges L;
+        nearest = λ h. rw (← plane-sum shift source denoised) (sigma16-nearest (planeSquares shift source denoised) n h (L .few) (plane-small L));
       }
 
   module _ (bits : ℕ) where
     count-at : (j : ℕ) → j < 2 ^ bits → getD (totals bits shift source denoised .binN) j 0 ≡ binCount bits shift source j
-    unfolding binCount
-    count-at j l = rw (totals-are bits shift source denoised .bin-n) (getD-tabulate (2 ^ bits) _ j 0 l)
+    count-at j l = rw (totals-count bits shift source denoised) (getD-tabulate (2 ^ bits) _ j 0 l)
 
     squares-at : (j : ℕ) → j < 2 ^ bits → getD (totals bits shift source denoised .binSq) j 0 ≡ binSquares bits shift source denoised j
-    unfolding binSquares
-    squares-at j l = rw (totals-are bits shift source denoised .bin-sq) (getD-tabulate (2 ^ bits) _ j 0 l)
+    squares-at j l = rw (totals-squares bits shift source denoised) (getD-tabulate (2 ^ bits) _ j 0 l)
 
     -- of a bin that is not empty
     bin-nearest : (j : ℕ) → 0 < binCount bits shift source j
@@ -56,8 +52,8 @@ module _ {depth : ℕ} {source denoised : List ℕ} (P : Pair (2 ^ 24) depth sou
     unfolding binCount binSquares
     bin-nearest j h =
         let bin = binAt bits shift source in
-        sigma16-nearest (sumN (inBin bin j sq) n) (sumN (inBin bin j (λ i. 1)) n) h (le-trans (count-le bin n j) (P .few))
-        (bin-le bin sq n j 65536 (square-small P (low-to n L)))
+        sigma16-nearest (sumN (inBin bin j sq) n) (sumN (inBin bin j (λ i. 1)) n) h (le-trans (count-le bin n j) (L .few))
+        (bin-le bin sq n j squareLimit (square-small L))
 
     pub in-words : (least : ℕ) → 0 < least → InWords bits least shift source denoised (profile bits least shift source denoised)
     unfolding profile sigmaOfBin

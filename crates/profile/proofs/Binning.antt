@@ -1,4 +1,4 @@
--- Bins: what is summed by bins adds up to the sum of all, whatever is summed, and a bin with no sample adds nothing. Assumes nothing.
+-- Bins: what is summed by bins adds up to the sum of all, whatever is summed; a bin with no sample adds nothing, and one with all of them is the whole sum. Assumes nothing.
 use mathlib.Core.Path.{_≡_, refl, _∙_}
 use mathlib.Core.Bool.{Bool, true, false, cond}
 use Prim.Native.Nat.{ℕ, zero, suc, _*_, _≤_, _<_, zero-le}
@@ -33,6 +33,13 @@ module _ (bin : ℕ → ℕ) (g : ℕ → ℕ) (n : ℕ) where
       term : (t : Bool) (x : ℕ) → x ≤ c → cond t x 0 ≤ c * cond t 1 0
       term true x l = omega arith
       term false x l = zero-le
+
+  -- no sample in bin j, and every sample
+  pub none-in : (j : ℕ) → ((i : ℕ) → i < n → bin i ≡ j → ⊥) → sumN (inBin bin j g) n ≡ 0
+  none-in j h = sum-zero (inBin bin j g) n (λ i l. rw (ne-eqb (bin i) j (h i l)) refl)
+
+  pub all-in : (j : ℕ) → ((i : ℕ) → i < n → bin i ≡ j) → sumN (inBin bin j g) n ≡ sumN g n
+  all-in j h = sum-ext (inBin bin j g) g n (λ i l. rw (eq-eqb (bin i) j (h i l)) refl)
 
 -- a bin has at most all samples
 pub count-le : (bin : ℕ → ℕ) (n j : ℕ) → sumN (inBin bin j (λ i. 1)) n ≤ n

@@ -1,7 +1,7 @@
 -- What accepted calls answer: the figures that the scope words; luma and Cb figures that no Cr sample changes; zeros for the chroma of a monochrome frame. A refused call answers its number and zeros. Assumes nothing.
 use mathlib.Core.Path.{_≡_, refl, sym, ap, _∙_}
 use mathlib.Core.List.{List, [], _∷_}
-use Prim.Native.Nat.{ℕ, _-_, _*_, _^_, _≤_, _<_}
+use Prim.Native.Nat.{ℕ, _-_, _*_}
 use native.Mathlib.Nat.{le-trans, le-of-eq}
 use native.Mathlib.Omega.{arith}
 use lib.Dec.{lit<}
@@ -10,73 +10,94 @@ use Rattle.laws.specs.Loop.{loop, turns}
 use Rattle.laws.specs.Limits.{sideLimit}
 use Rattle.frame.specs.Planes.{samplesOf}
 use Rattle.frame.specs.declared.Shape.{Shape}
-use Rattle.frame.specs.declared.view.Component.the-variants.{Y, CbCr}
+use Rattle.frame.specs.declared.view.Component.the-variants.{CbCr}
 use Rattle.frame.specs.Size.{chromaWidth, chromaHeight}
 use Rattle.frame.specs.Calls.{pairRefusal, frameRefusal}
-use Rattle.frame.proofs.Facts.{Plane, Depth}
-use Rattle.frame.proofs.Size.{chroma-samples-le, area-le}
+use Rattle.frame.proofs.Facts.{Small, Depth, Plane}
+use Rattle.frame.proofs.Size.{area-le}
+use Rattle.frame.proofs.Viewed.{viewed-whole}
 use Rattle.frame.proofs.Accepted.{pair-call, frame-call}
-use Rattle.frame.proofs.Refusal.{granted}
+use Rattle.frame.proofs.Refusal.{refused, granted}
+use Rattle.noise.proofs.Accepted.{chroma-small}
 use Rattle.float.specs.Steps.{sigma16Of}
 use Rattle.profile.specs.Steps.{planeSigma16, totals, sigmaOfBin, profile}
-use Rattle.profile.specs.Answers.{sigmaAnswer, chromaOf, noProfile, lumaProfile, chromaProfile, noEstimate, estimateAnswer}
-use Rattle.profile.specs.Words.{PlaneInWords, InWords, EstimateInWords}
-use Rattle.profile.specs.Parts.{Pair}
-use Rattle.profile.proofs.Lows.{Low}
-use Rattle.profile.proofs.Answered.{estimate-refused, estimate-accepted}
+use Rattle.profile.specs.Answers.{sigmaOf, sigmaAnswer, chromaOf, noProfile, lumaProfile, chromaProfile, estimateOf, noEstimate, estimateAnswer}
+use Rattle.profile.specs.Words.{LowSamples, PlaneInWords, EstimateInWords}
+use Rattle.profile.specs.declared.NoiseEstimate.{NoiseEstimate}
 use Rattle.profile.proofs.AsWorded.{plane-in-words, in-words}
 
--- a plane and its copy, as an accepted call has them
-module _ {size depth : ℕ} {a b : List ℕ} (d : Depth depth) (few : size ≤ 2 ^ 24) (p : Plane size depth a) (q : Plane size depth b) where
-  pair : Pair (2 ^ 24) depth a b
-  pair =
-      record { same = p .samples ∙ sym (q .samples); few = le-trans (le-of-eq (p .samples)) few; deep = d .least; shallow = d .most }
+-- the samples of a plane and its copy, as an accepted call has them
+low : {w h depth : ℕ} {a b : List ℕ} → Small w h → Depth depth → Plane (w * h) depth a → Plane (w * h) depth b → LowSamples depth a b
+low S d p q =
+    record {
+      least-depth = d .least;
+      few = le-trans (le-of-eq (p .samples)) (area-le sideLimit (S .wide) (S .high));
+      source-low = λ i l. p .below i;
+      denoised-low = λ i l. q .below i;
+    }
 
-  low : Low depth a b
-  low = record { source-low = p .below; denoised-low = q .below }
+-- an accepted call's figure is that of the planes themselves: the whole view shows them
+pub sigma-is : (w h depth : ℕ) (a b : List ℕ) → pairRefusal w h depth a b ≡ 0 → sigmaAnswer w h depth a b ≡ sigmaOf (planeSigma16 (depth - 8) a b)
+unfolding sigmaAnswer
+sigma-is w h depth a b e =
+    let c = pair-call w h depth a b e in
+    granted (pairRefusal w h depth a b) _ _ e
+    ∙ (λ i. sigmaOf (planeSigma16 (depth - 8) (viewed-whole w h a (c .first .samples) i) (viewed-whole w h b (c .second .samples) i)))
 
 pub sigma-worded : (w h depth : ℕ) (a b : List ℕ) → pairRefusal w h depth a b ≡ 0 → PlaneInWords (depth - 8) a b (sigmaAnswer w h depth a b .sigma16)
-unfolding sigmaAnswer
 sigma-worded w h depth a b e =
     let c = pair-call w h depth a b e in
-    let few : w * h ≤ 2 ^ 24 = area-le sideLimit (c .size .wide) (c .size .high) in
-    rw (granted (pairRefusal w h depth a b) (planeSigma16 (depth - 8) a b) 0 e)
-    (plane-in-words (pair (c .deep) few (c .first) (c .second)) (low (c .deep) few (c .first) (c .second)))
+    rw (sigma-is w h depth a b e) (plane-in-words (low (c .size) (c .deep) (c .first) (c .second)))
 
-module _ (s : Shape) (y cb cr y′ cb′ cr′ : List ℕ) where
-  accepted-is : frameRefusal s y cb cr y′ cb′ cr′ ≡ 0
-      → estimateAnswer s y cb cr y′ cb′ cr′ ≡ record { refusal = 0; luma = lumaProfile (s .depth) y y′; cb = chromaProfile (s .depth) cb cb′; cr = chromaProfile (s .depth) cr cr′ }
-  accepted-is e = sym (estimate-accepted s y cb cr y′ cb′ cr′ e refl refl refl)
+module _ (s : Shape) (y cb cr y-denoised cb-denoised cr-denoised : List ℕ) where
+  abbrev number : ℕ
+  number = frameRefusal s y cb cr y-denoised cb-denoised cr-denoised
 
-  pub estimate-worded : frameRefusal s y cb cr y′ cb′ cr′ ≡ 0 → EstimateInWords s y cb cr y′ cb′ cr′ (estimateAnswer s y cb cr y′ cb′ cr′)
+  abbrev answer : NoiseEstimate
+  answer = estimateAnswer s y cb cr y-denoised cb-denoised cr-denoised
+
+  pub estimate-is : number ≡ 0 → answer ≡ estimateOf (lumaProfile (s .depth) y y-denoised) (chromaProfile (s .depth) cb cb-denoised) (chromaProfile (s .depth) cr cr-denoised)
+  unfolding estimateAnswer
+  estimate-is e =
+      let c = frame-call s y cb cr y-denoised cb-denoised cr-denoised e in
+      let luma = viewed-whole (s .width) (s .height) in
+      let chroma = viewed-whole (chromaWidth (s .format) (s .width)) (chromaHeight (s .format) (s .height)) in
+      granted number _ _ e
+      ∙ (λ i.
+      estimateOf
+      (lumaProfile (s .depth) (luma y (c .source .y .samples) i) (luma y-denoised (c .copy .y .samples) i))
+      (chromaProfile (s .depth) (chroma cb (c .source .cb .samples) i) (chroma cb-denoised (c .copy .cb .samples) i))
+      (chromaProfile (s .depth) (chroma cr (c .source .cr .samples) i) (chroma cr-denoised (c .copy .cr .samples) i)))
+
+  pub estimate-worded : number ≡ 0 → EstimateInWords s y cb cr y-denoised cb-denoised cr-denoised answer
   estimate-worded e =
-      let c = frame-call s y cb cr y′ cb′ cr′ e in
+      let c = frame-call s y cb cr y-denoised cb-denoised cr-denoised e in
       let d = c .shape .depth in
-      let few : samplesOf s Y ≤ 2 ^ 24 = area-le sideLimit (c .shape .size .wide) (c .shape .size .high) in
-      let less = le-trans (chroma-samples-le s) few in
-      let words : (bits least size : ℕ) (a b : List ℕ) → size ≤ 2 ^ 24 → 0 < least → Plane size (s .depth) a → Plane size (s .depth) b → InWords bits least (s .depth - 8) a b (profile bits least (s .depth - 8) a b)
-      = λ bits least size a b f z p q. in-words (pair d f p q) (low d f p q) bits least z in
+      let luma = c .shape .size in
+      let chroma = chroma-small (s .format) (s .width) (s .height) luma in
       record {
-        y-profile = profile 3 64 (s .depth - 8) y y′;
-        cb-profile = profile 2 32 (s .depth - 8) cb cb′;
-        cr-profile = profile 2 32 (s .depth - 8) cr cr′;
-        answer = accepted-is e;
-        y-words = words 3 64 (samplesOf s Y) y y′ few (lit< tt) (c .source .y) (c .copy .y);
-        cb-words = words 2 32 (samplesOf s CbCr) cb cb′ less (lit< tt) (c .source .cb) (c .copy .cb);
-        cr-words = words 2 32 (samplesOf s CbCr) cr cr′ less (lit< tt) (c .source .cr) (c .copy .cr);
+        y-profile = profile 3 64 (s .depth - 8) y y-denoised;
+        cb-profile = profile 2 32 (s .depth - 8) cb cb-denoised;
+        cr-profile = profile 2 32 (s .depth - 8) cr cr-denoised;
+        answer = estimate-is e;
+        y-words = in-words (low luma d (c .source .y) (c .copy .y)) 3 64 (lit< tt);
+        cb-words = in-words (low chroma d (c .source .cb) (c .copy .cb)) 2 32 (lit< tt);
+        cr-words = in-words (low chroma d (c .source .cr) (c .copy .cr)) 2 32 (lit< tt);
       }
 
   -- "with every other field of the answer zero"
-  pub estimate-zeros : (frameRefusal s y cb cr y′ cb′ cr′ ≡ 0 → ⊥) → estimateAnswer s y cb cr y′ cb′ cr′ ≡ noEstimate (frameRefusal s y cb cr y′ cb′ cr′)
-  estimate-zeros z = sym (estimate-refused s y cb cr y′ cb′ cr′ refl z)
+  pub estimate-zeros : (number ≡ 0 → ⊥) → answer ≡ noEstimate number
+  unfolding estimateAnswer
+  estimate-zeros z = refused number _ _ z
 
 -- "Between two accepted calls of one shape that differ only in Cr samples, every luma and Cb result is the same."
-pub cr-apart : (s : Shape) (y cb cr dr y′ cb′ cr′ dr′ : List ℕ) → frameRefusal s y cb cr y′ cb′ cr′ ≡ 0 → frameRefusal s y cb dr y′ cb′ dr′ ≡ 0
-    → (estimateAnswer s y cb cr y′ cb′ cr′ .luma ≡ estimateAnswer s y cb dr y′ cb′ dr′ .luma)
-    × (estimateAnswer s y cb cr y′ cb′ cr′ .cb ≡ estimateAnswer s y cb dr y′ cb′ dr′ .cb)
-cr-apart s y cb cr dr y′ cb′ cr′ dr′ e f =
-    let a = accepted-is s y cb cr y′ cb′ cr′ e in
-    let b = accepted-is s y cb dr y′ cb′ dr′ f in
+pub cr-apart : (s : Shape) (y cb cr other y-denoised cb-denoised cr-denoised other-denoised : List ℕ)
+    → frameRefusal s y cb cr y-denoised cb-denoised cr-denoised ≡ 0 → frameRefusal s y cb other y-denoised cb-denoised other-denoised ≡ 0
+    → (estimateAnswer s y cb cr y-denoised cb-denoised cr-denoised .luma ≡ estimateAnswer s y cb other y-denoised cb-denoised other-denoised .luma)
+    × (estimateAnswer s y cb cr y-denoised cb-denoised cr-denoised .cb ≡ estimateAnswer s y cb other y-denoised cb-denoised other-denoised .cb)
+cr-apart s y cb cr other y-denoised cb-denoised cr-denoised other-denoised e f =
+    let a = estimate-is s y cb cr y-denoised cb-denoised cr-denoised e in
+    let b = estimate-is s y cb other y-denoised cb-denoised other-denoised f in
     ((λ i. (a i) .luma) ∙ sym (λ i. (b i) .luma), (λ i. (a i) .cb) ∙ sym (λ i. (b i) .cb))
 
 -- ---- "Monochrome gives chroma zeros."
@@ -90,13 +111,13 @@ none : (depth : ℕ) (b : List ℕ) → chromaProfile depth [] b ≡ chromaOf (n
 unfolding profile totals sigmaOfBin sigma16Of loop turns
 none depth b = refl
 
-pub monochrome : (s : Shape) (y cb cr y′ cb′ cr′ : List ℕ) → s .format ≡ 0 → frameRefusal s y cb cr y′ cb′ cr′ ≡ 0
-    → (estimateAnswer s y cb cr y′ cb′ cr′ .cb ≡ chromaOf (noProfile 4)) × (estimateAnswer s y cb cr y′ cb′ cr′ .cr ≡ chromaOf (noProfile 4))
+pub monochrome : (s : Shape) (y cb cr y-denoised cb-denoised cr-denoised : List ℕ) → s .format ≡ 0 → frameRefusal s y cb cr y-denoised cb-denoised cr-denoised ≡ 0
+    → (estimateAnswer s y cb cr y-denoised cb-denoised cr-denoised .cb ≡ chromaOf (noProfile 4)) × (estimateAnswer s y cb cr y-denoised cb-denoised cr-denoised .cr ≡ chromaOf (noProfile 4))
 unfolding chromaWidth chromaHeight
-monochrome s y cb cr y′ cb′ cr′ m e =
-    let c = frame-call s y cb cr y′ cb′ cr′ e in
-    let a = accepted-is s y cb cr y′ cb′ cr′ e in
-    ((λ i. (a i) .cb) ∙ gone cb cb′ (c .source .cb .samples), (λ i. (a i) .cr) ∙ gone cr cr′ (c .source .cr .samples))
+monochrome s y cb cr y-denoised cb-denoised cr-denoised m e =
+    let c = frame-call s y cb cr y-denoised cb-denoised cr-denoised e in
+    let a = estimate-is s y cb cr y-denoised cb-denoised cr-denoised e in
+    ((λ i. (a i) .cb) ∙ gone cb cb-denoised (c .source .cb .samples), (λ i. (a i) .cr) ∙ gone cr cr-denoised (c .source .cr .samples))
   where
     no-samples : samplesOf s CbCr ≡ 0
     no-samples = ap (λ (f : ℕ). chromaWidth f (s .width) * chromaHeight f (s .height)) m

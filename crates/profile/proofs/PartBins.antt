@@ -1,40 +1,78 @@
--- The bins of a part, from its two lines: the line of shifted noise and the line of bins have the counts and squares of the part's bins. Assumes nothing.
+-- The bins of a part, from its two lines: the line of shifted noise and the line of bins have the counts and squares of the part's places. Assumes nothing.
 use mathlib.Core.Path.{_≡_, refl, sym, ap, _∙_, fun-ext}
 use mathlib.Core.List.{List}
-use Prim.Native.Nat.{ℕ, _-_, _/_, _^_, _≤_, _<_}
-use lib.IntN.{ℤ}
+use Prim.Native.Nat.{ℕ, _+_, _-_, _*_, _/_, _^_, _≤_, _<_}
+use native.Mathlib.Nat.{le-trans, le-of-eq, lt-of-lt-of-le}
+use native.Mathlib.Omega.{arith}
+use lib.Dec.{lit≤}
+use lib.IntN.{ℤ, natAbs}
 use lib.ListN.{length, getD}
-use Rattle.laws.specs.Table.{tabulate}
+use lib.Pow.{pow-mono}
+use Rattle.laws.specs.Sums.{sumN}
 use Rattle.laws.proofs.Table.{length-tabulate, getD-tabulate}
 use Rattle.noise.proofs.LineSums.{entry}
-use Rattle.laws.specs.Sums.{sumN}
-use Rattle.profile.specs.Shifted.{shiftedNoise, squareOf}
-use Rattle.profile.specs.Bins.{binAt, binCount, binSquares}
-use Rattle.profile.specs.Parts.{Pair, Binned, lineCount, lineSquares}
-use Rattle.profile.proofs.Range.{bin-shift}
+use Rattle.profile.specs.Shifted.{shiftedNoise, squareOf, square}
+use Rattle.profile.specs.Bins.{binAt}
+use Rattle.profile.specs.Parts.{partLimit, noiseLimit, squareLimit, LinesFrom, LinesOf, Binned, lineCount, lineSquares}
+use Rattle.profile.specs.Runs.{Run, runCount, runSquares, Added, RunAdded, increased}
+use Rattle.profile.proofs.Range.{shifted-range, range-small, bin-shift}
 use Rattle.profile.proofs.Binning.{bin-ext}
-use Rattle.profile.proofs.Lows.{Low, part-small}
+use Rattle.profile.proofs.Squares.{square-le, line-small}
 
-module _ {depth bits n : ℕ} {source denoised bins : List ℕ} {line : List ℤ} (P : Pair 256 depth source denoised) (L : Low depth source denoised)
-    (narrow : bits ≤ 8) (e : line ≡ tabulate (length source) (shiftedNoise (depth - 8) source denoised))
-    (d : n ≡ length source) (f : bins ≡ tabulate n (λ i. getD source i 0 / 2 ^ (depth - bits))) where
-  size : length bins ≡ length source
-  size = ap length f ∙ length-tabulate n _ ∙ d
+module _ {depth start stride n : ℕ} {source denoised : List ℕ} (R : Run depth source denoised start stride n) where
+  -- what is below 2 ^ depth is below 2 ^ 15
+  pub run-lines : (bits m : ℕ) → m ≡ n → LinesFrom source denoised start stride (depth - 8) (depth - bits) n m
+  run-lines bits m e =
+      let most : 2 ^ depth ≤ 2 ^ 15 = le-trans (pow-mono (R .most-depth)) (lit≤ tt) in
+      record {
+        places = record {
+          same = R .places .same;
+          begins = R .places .begins;
+          inside = R .places .inside;
+          source-low = λ i l. lt-of-lt-of-le (R .places .source-low i l) most;
+          denoised-low = λ i l. lt-of-lt-of-le (R .places .denoised-low i l) most;
+        };
+        same = e;
+        shift-small = omega (arith, R .most-depth);
+        coarse-small = omega (arith, R .most-depth);
+      }
 
-  pub part-binned : Binned line bins
-  part-binned = record { same = ap length e ∙ length-tabulate (length source) _ ∙ sym size; line-small = part-small P L e }
+  run-noise : (i : ℕ) → i < n → natAbs (shiftedNoise (depth - 8) source denoised (start + i * stride)) ≤ noiseLimit
+  run-noise i l =
+      let k = R .places .inside i l in
+      range-small _
+      (shifted-range depth (R .least-depth) source denoised (start + i * stride) (R .places .source-low _ k)
+      (R .places .denoised-low _ (lt-of-lt-of-le k (le-of-eq (R .places .same)))))
 
-  bin-entry : (i : ℕ) → i < length source → getD bins i 0 ≡ binAt bits (depth - 8) source i
-  bin-entry i l =
-      rw (f, d) (getD-tabulate (length source) (λ k. getD source k 0 / 2 ^ (depth - bits)) i 0 l)
-      ∙ bin-shift depth (P .deep) bits (getD source i 0) narrow (L .source-low i)
+  pub run-square : (i : ℕ) → i < n → square (depth - 8) source denoised (start + i * stride) ≤ squareLimit
+  run-square i l = square-le (shiftedNoise (depth - 8) source denoised (start + i * stride)) (run-noise i l)
 
-  pub counts-are : lineCount bins ≡ binCount bits (depth - 8) source
-  unfolding lineCount binCount
-  counts-are = fun-ext (λ j. ap (sumN _) size ∙ bin-ext _ _ (λ i. 1) (λ i. 1) (length source) j bin-entry (λ i h. refl))
+  module _ {bits : ℕ} {line : List ℤ} {bins : List ℕ} (narrow : bits ≤ 8) (L : LinesOf source denoised start stride (depth - 8) (depth - bits) n line bins) where
+    pub bins-size : length bins ≡ n
+    bins-size = ap length (L .bins-is) ∙ length-tabulate n _
 
-  pub squares-are : lineSquares line bins ≡ binSquares bits (depth - 8) source denoised
-  unfolding lineSquares binSquares
-  squares-are =
-      fun-ext
-      (λ j. ap (sumN _) size ∙ bin-ext _ _ _ _ (length source) j bin-entry (λ i h. ap squareOf (entry (length source) (shiftedNoise (depth - 8) source denoised) e i h)))
+    pub part-binned : n ≤ partLimit → Binned line bins
+    part-binned few =
+        record {
+          same = ap length (L .line-is) ∙ length-tabulate n _ ∙ sym bins-size;
+          shifted-line = line-small n _ (L .line-is) few run-noise;
+        }
+
+    bin-entry : (i : ℕ) → i < n → getD bins i 0 ≡ binAt bits (depth - 8) source (start + i * stride)
+    bin-entry i l =
+        rw (L .bins-is) (getD-tabulate n (λ k. getD source (start + k * stride) 0 / 2 ^ (depth - bits)) i 0 l)
+        ∙ bin-shift depth (R .least-depth) bits (getD source (start + i * stride) 0) narrow (R .places .source-low _ (R .places .inside i l))
+
+    counts-are : lineCount bins ≡ runCount bits (depth - 8) source start stride n
+    unfolding lineCount
+    counts-are = fun-ext (λ j. ap (sumN _) bins-size ∙ bin-ext _ _ (λ i. 1) (λ i. 1) n j bin-entry (λ i h. refl))
+
+    squares-are : lineSquares line bins ≡ runSquares bits (depth - 8) source denoised start stride n
+    unfolding lineSquares
+    squares-are = fun-ext (λ j. ap (sumN _) bins-size ∙ bin-ext _ _ _ _ n j bin-entry (λ i h. ap squareOf (entry n _ (L .line-is) i h)))
+
+    -- what the lines add is what the run has
+    pub part-added : {count squares count′ squares′ : List ℕ} → Added bits count squares (lineCount bins) (lineSquares line bins) count′ squares′
+        → RunAdded bits depth source denoised start stride n count squares count′ squares′
+    part-added {count} {squares} A =
+        record { counts = A .counts ∙ ap (increased count (2 ^ bits)) counts-are; sums = A .sums ∙ ap (increased squares (2 ^ bits)) squares-are }

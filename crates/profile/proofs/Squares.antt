@@ -1,7 +1,7 @@
 -- Squares of small numbers: no number's square is negative, those of a line fit an i32 by blocks of 32, and `dot` of a line with itself is their sum. Assumes nothing.
 use mathlib.Core.Path.{_≡_, refl, ap, _∙_}
 use mathlib.Core.List.{List}
-use Prim.Native.Nat.{ℕ, _^_, _≤_, _<_}
+use Prim.Native.Nat.{ℕ, _*_, _≤_, _<_}
 use native.Mathlib.Nat.{le-trans, le-of-eq, lt-of-le-of-lt, lt-of-lt-of-le, mul-le-mul-left}
 use native.Mathlib.Omega.{arith}
 use lib.Dec.{lit≤, lit<}
@@ -15,17 +15,17 @@ use Rattle.laws.proofs.Whole.{abs-mul-le}
 use Rattle.noise.specs.Lines.{at, product, Lines}
 use Rattle.noise.proofs.LineSums.{entry}
 use Rattle.profile.specs.Shifted.{squareOf}
-use Rattle.profile.specs.Parts.{Small}
+use Rattle.profile.specs.Parts.{partLimit, noiseLimit, squareLimit, ShiftedLine}
 use Rattle.laws.proofs.SumsN.{sum-ext, sum-pos, sum-bound}
 
 pub square-pos : (d : ℤ) → d *ℤ d ≡ pos (squareOf d)
 square-pos (pos n) = refl
 square-pos (negsuc n) = refl
 
-pub square-le : (d : ℤ) → natAbs d ≤ 256 → squareOf d ≤ 65536
-square-le d h = abs-mul-le d d 256 256 h h
+pub square-le : (d : ℤ) → natAbs d ≤ noiseLimit → squareOf d ≤ squareLimit
+square-le d h = abs-mul-le d d noiseLimit noiseLimit h h
 
-pub square-lines : {line : List ℤ} → Small line → Lines 32 line line
+pub square-lines : {line : List ℤ} → ShiftedLine line → Lines 32 line line
 square-lines {line} S =
     record {
       same = refl;
@@ -38,8 +38,8 @@ dot-squares line =
     sum-extZ (product line line) (λ i. pos (squareOf (at line i))) (length line) (λ i l. square-pos (at line i))
     ∙ sum-pos (λ i. squareOf (at line i)) (length line)
 
-pub squares-le : {line : List ℤ} → Small line → sumN (λ i. squareOf (at line i)) (length line) ≤ 2 ^ 24
-squares-le {line} S = omega (arith, S .few, sum-bound 65536 (λ i. squareOf (at line i)) (length line) (λ i l. square-le (at line i) (S .small i l)))
+pub squares-le : {line : List ℤ} → ShiftedLine line → sumN (λ i. squareOf (at line i)) (length line) ≤ squareLimit * partLimit
+squares-le {line} S = omega (arith, S .few, sum-bound squareLimit (λ i. squareOf (at line i)) (length line) (λ i l. square-le (at line i) (S .small i l)))
 
 -- ---- a line given by its entries
 
@@ -47,7 +47,7 @@ module _ (n : ℕ) (f : ℕ → ℤ) {line : List ℤ} (e : line ≡ tabulate n 
   size : length line ≡ n
   size = rw e (length-tabulate n f)
 
-  pub line-small : n ≤ 256 → ((i : ℕ) → i < n → natAbs (f i) ≤ 256) → Small line
+  pub line-small : n ≤ partLimit → ((i : ℕ) → i < n → natAbs (f i) ≤ noiseLimit) → ShiftedLine line
   line-small h small =
       record {
         few = le-trans (le-of-eq size) h;

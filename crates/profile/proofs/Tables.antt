@@ -1,17 +1,21 @@
 -- Tables of numbers: a list is the table of its entries, one store changes one entry, and a loop that goes through the entries changes all. Entry by entry. Assumes nothing.
 use mathlib.Core.Path.{_≡_, refl, sym, ap, _∙_}
-use mathlib.Core.List.{List}
+use mathlib.Core.List.{List, _++_}
 use mathlib.Core.Bool.{Bool, true, false, cond}
 use Prim.Native.Nat.{ℕ, _+_, _≤_, _<_}
 use native.Mathlib.Nat.{lt-of-lt-of-le, le-of-eq}
 use native.Mathlib.Omega.{arith}
 use lib.Dec.{eqb, ltb}
-use lib.ListN.{length, getD, set, length-set}
+use lib.ListN.{length, getD, set, take, drop, length-set, length-append, length-take, length-drop}
 use lib.Seq.{ext-getD, getD-set-same, getD-set-other}
 use borrow.Author.Tests.{eqb-true, eqb-false, eq-eqb, ne-eqb, lt-ltb, le-ltb, ltb-true, ltb-false}
 use Rattle.laws.specs.Table.{tabulate}
 use Rattle.laws.proofs.Table.{length-tabulate, getD-tabulate, tabulate-same}
 use Rattle.profile.specs.Steps.{added}
+
+-- a list whose front was lent and came back as long is as long
+pub front-length : {A : Type 0} (n : ℕ) (front l : List A) → length front ≡ length (take n l) → length (front ++ drop n l) ≡ length l
+front-length n front l e = length-append front (drop n l) ∙ omega (arith, e, length-take n l, length-drop n l)
 
 pub by-entries : (l : List ℕ) (n : ℕ) (f : ℕ → ℕ) → length l ≡ n → ((i : ℕ) → i < n → getD l i 0 ≡ f i) → l ≡ tabulate n f
 by-entries l n f e h =

@@ -4,18 +4,31 @@ use Prim.Native.Nat.{ℕ, _-_}
 use lib.ListN.{replicate}
 use Rattle.frame.specs.Questions.{accepted}
 use Rattle.frame.specs.Calls.{pairRefusal, frameRefusal}
+use Rattle.frame.specs.View.{viewed, whole}
+use Rattle.frame.specs.Planes.{viewOf}
 use Rattle.frame.specs.declared.Shape.{Shape}
+use Rattle.frame.specs.declared.view.Component.the-variants.{Y, CbCr}
 use Rattle.profile.specs.Steps.{Profile, planeSigma16, profile}
 use Rattle.profile.specs.declared.Sigma.{Sigma}
 use Rattle.profile.specs.declared.LumaProfile.{LumaProfile}
 use Rattle.profile.specs.declared.ChromaProfile.{ChromaProfile}
 use Rattle.profile.specs.declared.NoiseEstimate.{NoiseEstimate}
 
+-- ---- plane_sigma16
+
+abbrev pub sigmaOf : ℕ → Sigma
+sigmaOf sigma16 = record { refusal = 0; sigma16 = sigma16 }
+
+-- a refused call's
+abbrev pub noSigma : ℕ → Sigma
+noSigma n = record { refusal = n; sigma16 = 0 }
+
 unfoldable pub sigmaAnswer : ℕ → ℕ → ℕ → List ℕ → List ℕ → Sigma
-unfolding pairRefusal planeSigma16
+unfolding pairRefusal planeSigma16 viewed
 sigmaAnswer width height depth source denoised =
-    let r = pairRefusal width height depth source denoised in
-    record { refusal = r; sigma16 = accepted r (planeSigma16 (depth - 8) source denoised) 0 }
+    let n = pairRefusal width height depth source denoised in
+    let view = whole width height in
+    accepted n (sigmaOf (planeSigma16 (depth - 8) (viewed view source) (viewed view denoised))) (noSigma n)
 
 -- ---- noise_estimate
 
@@ -38,17 +51,22 @@ lumaProfile depth source denoised = lumaOf (profile 3 64 (depth - 8) source deno
 abbrev pub chromaProfile : ℕ → List ℕ → List ℕ → ChromaProfile
 chromaProfile depth source denoised = chromaOf (profile 2 32 (depth - 8) source denoised)
 
+abbrev pub estimateOf : LumaProfile → ChromaProfile → ChromaProfile → NoiseEstimate
+estimateOf luma cb cr = record { refusal = 0; luma = luma; cb = cb; cr = cr }
+
 -- a refused call's
 abbrev pub noEstimate : ℕ → NoiseEstimate
 noEstimate n = record { refusal = n; luma = lumaOf (noProfile 8); cb = chromaOf (noProfile 4); cr = chromaOf (noProfile 4) }
 
 unfoldable pub estimateAnswer : Shape → List ℕ → List ℕ → List ℕ → List ℕ → List ℕ → List ℕ → NoiseEstimate
-unfolding frameRefusal profile
-estimateAnswer s y cb cr y′ cb′ cr′ =
-    let r = frameRefusal s y cb cr y′ cb′ cr′ in
-    record {
-      refusal = r;
-      luma = accepted r (lumaProfile (s .depth) y y′) (lumaOf (noProfile 8));
-      cb = accepted r (chromaProfile (s .depth) cb cb′) (chromaOf (noProfile 4));
-      cr = accepted r (chromaProfile (s .depth) cr cr′) (chromaOf (noProfile 4));
-    }
+unfolding frameRefusal profile viewed
+estimateAnswer s y cb cr y-denoised cb-denoised cr-denoised =
+    let n = frameRefusal s y cb cr y-denoised cb-denoised cr-denoised in
+    let luma = viewOf s Y in
+    let chroma = viewOf s CbCr in
+    accepted n
+    (estimateOf
+    (lumaProfile (s .depth) (viewed luma y) (viewed luma y-denoised))
+    (chromaProfile (s .depth) (viewed chroma cb) (viewed chroma cb-denoised))
+    (chromaProfile (s .depth) (viewed chroma cr) (viewed chroma cr-denoised)))
+    (noEstimate n)

@@ -1,41 +1,55 @@
--- "noise vectors: noise worked out from two lent planes as needed": here part by part, a part being a run of samples and the same places of the denoised copy. What the functions over parts and planes ask and promise.
+-- A part: at most 256 samples of a row, their shifted noise in a line, and their bins in another. What the functions over a part's lines ask and promise.
 use mathlib.Core.Path.{_≡_}
-use mathlib.Core.Bool.{Bool, true, _&&_}
 use mathlib.Core.List.{List}
-use Prim.Native.Nat.{ℕ, _+_, _^_, _≤_, _<_}
-use lib.IntN.{ℤ, natAbs}
-use lib.ListN.{length, getD, replicate}
+use Prim.Native.Nat.{ℕ, _+_, _*_, _/_, _^_, _≤_, _<_}
+use lib.IntN.{ℤ}
+use lib.ListN.{length, getD}
 use Rattle.laws.specs.Table.{tabulate}
-use Rattle.frame.specs.Questions.{low}
-use Rattle.noise.specs.Lines.{at}
 use Rattle.laws.specs.Sums.{total, sumN}
-use Rattle.profile.specs.Shifted.{squareOf}
-use Rattle.profile.specs.Steps.{Profile}
+use Rattle.noise.specs.Lines.{at, AtMost, Places}
+use Rattle.profile.specs.Shifted.{shiftedNoise, squareOf}
 use Rattle.profile.specs.Bins.{inBin}
 
--- two lists of one length, at most `most`, and a depth
-pub record Pair (most depth : ℕ) (source denoised : List ℕ) : Type 0 where
-  pub same : length source ≡ length denoised
-  pub few : length source ≤ most
-  pub deep : 8 ≤ depth
-  pub shallow : depth ≤ 12
+-- the most samples of a part
+abbrev pub partLimit : ℕ
+partLimit = 256
 
--- question 6, of both
-abbrev pub bothLow : ℕ → List ℕ → List ℕ → Bool
-bothLow depth source denoised = low depth source && low depth denoised
+-- the most that a shifted noise is in size, and its square
+abbrev pub noiseLimit : ℕ
+noiseLimit = 256
 
--- it is answered, and where the answer is yes, a fact holds
-abbrev pub LowThen : Bool → ℕ → List ℕ → List ℕ → Type 0 → Type 0
-LowThen answer depth source denoised fact = (answer ≡ bothLow depth source denoised) × (answer ≡ true → fact)
+abbrev pub squareLimit : ℕ
+squareLimit = noiseLimit * noiseLimit
 
--- a part's line of small numbers; and with the bin of each
-pub record Small (line : List ℤ) : Type 0 where
-  pub few : length line ≤ 256
-  pub small : (i : ℕ) → i < length line → natAbs (at line i) ≤ 256
+-- ---- the lines of a part
+
+-- n places of two planes, and two lines for them; shifts that a u16 has bits for
+pub record LinesFrom (source denoised : List ℕ) (start stride shift coarse n bins : ℕ) : Type 0 where
+  pub places : Places (2 ^ 15) source denoised start stride n
+  pub same : bins ≡ n
+  pub shift-small : shift < 16
+  pub coarse-small : coarse < 16
+
+-- the shifted noise of n places, and their samples shifted right by `coarse`
+pub record LinesOf (source denoised : List ℕ) (start stride shift coarse n : ℕ) (line : List ℤ) (bins : List ℕ) : Type 0 where
+  pub line-is : line ≡ tabulate n (λ i. shiftedNoise shift source denoised (start + i * stride))
+  pub bins-is : bins ≡ tabulate n (λ i. getD source (start + i * stride) 0 / 2 ^ coarse)
+
+-- ---- the bins of a part
+
+-- a part's line of shifted noise, and with the bin of each place
+pub record ShiftedLine (line : List ℤ) : Type 0 where
+  pub few : length line ≤ partLimit
+  pub small : AtMost noiseLimit line
 
 pub record Binned (line : List ℤ) (bins : List ℕ) : Type 0 where
   pub same : length line ≡ length bins
-  pub line-small : Small line
+  pub shifted-line : ShiftedLine line
+
+-- no bin is below the least or above the greatest
+pub record Between (bins : List ℕ) (least greatest : ℕ) : Type 0 where
+  pub least-is : (i : ℕ) → i < length bins → least ≤ getD bins i 0
+  pub greatest-is : (i : ℕ) → i < length bins → getD bins i 0 ≤ greatest
 
 -- over the places of bin j: how many, and the squares of the line
 unfoldable pub lineCount : List ℕ → ℕ → ℕ
@@ -45,28 +59,3 @@ lineCount bins j = sumN (inBin (λ i. getD bins i 0) j (λ i. 1)) (length bins)
 unfoldable pub lineSquares : List ℤ → List ℕ → ℕ → ℕ
 unfolding total
 lineSquares line bins j = sumN (inBin (λ i. getD bins i 0) j (λ i. squareOf (at line i))) (length bins)
-
--- tables of 2 ^ bits entries each, which a u64 holds once they are increased
-pub record Tables (bits : ℕ) (count squares : List ℕ) (more more-squares : ℕ → ℕ) : Type 0 where
-  pub narrow : bits ≤ 8
-  pub counts : length count ≡ 2 ^ bits
-  pub sums : length squares ≡ 2 ^ bits
-  pub count-room : (j : ℕ) → j < 2 ^ bits → getD count j 0 + more j < 2 ^ 64
-  pub squares-room : (j : ℕ) → j < 2 ^ bits → getD squares j 0 + more-squares j < 2 ^ 64
-
--- each entry of a table, increased
-abbrev pub increased : List ℕ → ℕ → (ℕ → ℕ) → List ℕ
-increased table n f = tabulate n (λ j. getD table j 0 + f j)
-
--- tables of 2 ^ bits zeros
-pub record Blank (bits : ℕ) (count squares : List ℕ) : Type 0 where
-  pub narrow : bits ≤ 8
-  pub counts : count ≡ replicate (2 ^ bits) 0
-  pub sums : squares ≡ replicate (2 ^ bits) 0
-
--- these are the figures of a profile
-pub record Profiled (p : Profile) (plane : ℕ) (sigma count squares : List ℕ) : Type 0 where
-  pub plane-is : plane ≡ p .sigma16
-  pub sigma-is : sigma ≡ p .binSigma16
-  pub count-is : count ≡ p .count
-  pub squares-is : squares ≡ p .squares

@@ -5,19 +5,27 @@ use Prim.Native.Nat.{ℕ, _-_, _/_, _^_, _≤_, _<_, max}
 use lib.IntN.{ℤ, pos, negℤ}
 use lib.ListN.{length, getD}
 use lib.Signed.{_≤ℤ_}
+use Rattle.laws.specs.Limits.{planeLimit}
 use Rattle.frame.specs.declared.Shape.{Shape}
 use Rattle.float.specs.Sigma.{Nearest16}
 use Rattle.laws.specs.Sums.{sumN, sumOf}
 use Rattle.profile.specs.Shifted.{shiftedNoise, square}
 use Rattle.profile.specs.Bins.{binCount, binSquares}
 use Rattle.profile.specs.Steps.{Profile}
-use Rattle.profile.specs.Answers.{lumaOf, chromaOf}
+use Rattle.profile.specs.Answers.{lumaOf, chromaOf, estimateOf}
 use Rattle.profile.specs.declared.NoiseEstimate.{NoiseEstimate}
 
 -- "each d from −256 to 255"
 pub record InRange (d : ℤ) : Type 0 where
   pub least : negℤ (pos 256) ≤ℤ d
   pub most : d ≤ℤ pos 255
+
+-- samples below 2 ^ depth, of a plane and of its copy, and no more of them than a plane has
+pub record LowSamples (depth : ℕ) (source denoised : List ℕ) : Type 0 where
+  pub least-depth : 8 ≤ depth
+  pub few : length source ≤ planeLimit
+  pub source-low : (i : ℕ) → i < length source → getD source i 0 < 2 ^ depth
+  pub denoised-low : (i : ℕ) → i < length source → getD denoised i 0 < 2 ^ depth
 
 -- n samples with d in range, and k the whole number nearest to 16 × root(sum of d² / n)
 pub record PlaneInWords (shift : ℕ) (source denoised : List ℕ) (k : ℕ) : Type 0 where
@@ -35,11 +43,11 @@ pub record InWords (bits least shift : ℕ) (source denoised : List ℕ) (p : Pr
   pub other : (j : ℕ) → j < 2 ^ bits → getD (p .count) j 0 < max (length source / 100) least → getD (p .binSigma16) j 0 ≡ p .sigma16
 
 -- the answer of an accepted frame call: eight luma bins of at least 64 samples, four chroma bins of at least 32
-pub record EstimateInWords (s : Shape) (y cb cr y′ cb′ cr′ : List ℕ) (e : NoiseEstimate) : Type 0 where
+pub record EstimateInWords (s : Shape) (y cb cr y-denoised cb-denoised cr-denoised : List ℕ) (e : NoiseEstimate) : Type 0 where
   pub y-profile : Profile
   pub cb-profile : Profile
   pub cr-profile : Profile
-  pub answer : e ≡ record { refusal = 0; luma = lumaOf y-profile; cb = chromaOf cb-profile; cr = chromaOf cr-profile }
-  pub y-words : InWords 3 64 (s .depth - 8) y y′ y-profile
-  pub cb-words : InWords 2 32 (s .depth - 8) cb cb′ cb-profile
-  pub cr-words : InWords 2 32 (s .depth - 8) cr cr′ cr-profile
+  pub answer : e ≡ estimateOf (lumaOf y-profile) (chromaOf cb-profile) (chromaOf cr-profile)
+  pub y-words : InWords 3 64 (s .depth - 8) y y-denoised y-profile
+  pub cb-words : InWords 2 32 (s .depth - 8) cb cb-denoised cb-profile
+  pub cr-words : InWords 2 32 (s .depth - 8) cr cr-denoised cr-profile

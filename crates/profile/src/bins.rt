@@ -1,17 +1,23 @@
 // The bins of a part: how many samples lie in each, and the sum of their squares.
-use crate::parts::blank_line;
-use crate::parts::line_squares;
-use crate::parts::shifted_part;
+use crate::lines::part_lines;
 ghost use mathlib.Core.Path.{_≡_};
-ghost use mathlib.Core.Bool.{true, cond};
-ghost use Prim.Native.Nat.{_-_, _/_, _^_, _≤_, _<_};
+ghost use mathlib.Core.Bool.{cond};
+ghost use Prim.Native.Nat.{_≤_, min, max};
 ghost use lib.Dec.{eqb};
 ghost use lib.IntN.{pos};
 ghost use lib.ListN.{length, getD};
 ghost use Rattle.laws.specs.Table.{tabulate};
+ghost use Rattle.laws.specs.Sums.{sumN};
 ghost use Rattle.noise.specs.Lines.{at};
-ghost use Rattle.profile.specs.Bins.{binCount, binSquares};
-ghost use Rattle.profile.specs.Parts.{Pair, bothLow, Binned, lineCount, lineSquares, Tables, increased, LowThen};
+ghost use Rattle.profile.specs.Shifted.{squareOf};
+ghost use Rattle.profile.specs.Parts.{partLimit, ShiftedLine, Binned, Between, lineCount, lineSquares};
+ghost use Rattle.profile.specs.Runs.{Run, Tables, Added, RunAdded};
+
+// The bins between which all of a part lie.
+pub struct Range {
+    pub least: u16,
+    pub greatest: u16,
+}
 
 // What a part has in one bin.
 pub struct Bin {
@@ -19,21 +25,32 @@ pub struct Bin {
     pub squares: u64,
 }
 
-fn blank_bins() -> [u16; 256] {
-    [0u16; 256]
+// The lesser of two.
+fn lesser(a: u16, b: u16) -> u16
+    ensures { λ r. ⌜ r ≡ min a b ⌝ }
+{
+    if b < a { b } else { a }
 }
 
-// bins[i] = src[i] >> shift.
-fn bin_line(src: &[u16], shift: u32, bins: &mut [u16])
-    requires { ⌜ (shift < 16) × (length (now src) ≡ length (now bins)) ⌝ }
-    ensures { λ _. ⌜ now (bins .exit) ≡ tabulate (length (now (bins .entry))) (λ i. getD (now (src .entry)) i 0 / 2 ^ shift) ⌝ }
+// The greater of two.
+fn greater(a: u16, b: u16) -> u16
+    ensures { λ r. ⌜ r ≡ max a b ⌝ }
 {
-    let mut i = 0usize;
-    while i < bins.len() {
-        let x = src[i];
-        bins[i] = x >> shift;
-        i += 1usize;
+    if a < b { b } else { a }
+}
+
+// The least and the greatest bin.
+fn range_of(bins: &[u16]) -> Range
+    ensures { λ r. ⌜ Between (now (bins .entry)) (r .least) (r .greatest) ⌝ }
+{
+    let mut least = 65535;
+    let mut greatest = 0;
+    for i in 0..bins.len() {
+        let bin = bins[i];
+        least = lesser(least, bin);
+        greatest = greater(greatest, bin);
     }
+    Range { least, greatest }
 }
 
 // 1 where the bin is j, else 0.
@@ -50,55 +67,52 @@ fn kept(bin: u16, j: u16, x: i16) -> i16
     if bin == j { x } else { 0 }
 }
 
-// How many are in bin j.
-fn bin_count(bins: &[u16], j: u16) -> u16
-    requires { ⌜ length (now bins) ≤ 256 ⌝ }
-    ensures { λ r. ⌜ r ≡ lineCount (now (bins .entry)) j ⌝ }
+// How many are in bin j; own[i] = line[i] where bins[i] is j, else 0.
+fn keep_bin(line: &[i16], bins: &[u16], j: u16, own: &mut [i16]) -> u16
+    requires { ⌜ (length (now line) ≡ length (now own)) × (length (now bins) ≡ length (now own)) × (length (now own) ≤ partLimit) ⌝ }
+    ensures { λ r. ⌜ (r ≡ lineCount (now (bins .entry)) j) × (now (own .exit) ≡ tabulate (length (now (own .entry))) (λ i. cond (eqb (getD (now (bins .entry)) i 0) j) (at (now (line .entry)) i) (pos 0))) ⌝ }
 {
-    let mut count = 0u16;
-    let mut i = 0usize;
-    while i < bins.len() {
-        count = count + hit(bins[i], j);
-        i += 1usize;
+    let mut count = 0;
+    for i in 0..own.len() {
+        let bin = bins[i];
+        count = count + hit(bin, j);
+        own[i] = kept(bin, j, line[i]);
     }
     count
 }
 
-// out[i] = line[i] where bins[i] is j, else 0.
-fn kept_line(line: &[i16], bins: &[u16], j: u16, out: &mut [i16])
-    requires { ⌜ (length (now line) ≡ length (now out)) × (length (now bins) ≡ length (now out)) ⌝ }
-    ensures { λ _. ⌜ now (out .exit) ≡ tabulate (length (now (out .entry))) (λ i. cond (eqb (getD (now (bins .entry)) i 0) j) (at (now (line .entry)) i) (pos 0)) ⌝ }
+// line[0]² + line[1]² + ..
+fn line_squares(line: &[i16]) -> u64
+    requires { ⌜ ShiftedLine (now line) ⌝ }
+    ensures { λ r. ⌜ r ≡ sumN (λ i. squareOf (at (now (line .entry)) i)) (length (now (line .entry))) ⌝ }
 {
-    let mut i = 0usize;
-    while i < out.len() {
-        out[i] = kept(bins[i], j, line[i]);
-        i += 1usize;
-    }
+    noise::dot(line, line) as u64
 }
 
-// The squares of bin j. The line `own` has a place for each sample.
-fn bin_squares(line: &[i16], bins: &[u16], j: u16, own: &mut [i16]) -> u64
-    requires { ⌜ Binned (now line) (now bins) × (length (now own) ≡ length (now bins)) ⌝ }
-    ensures { λ r. ⌜ r ≡ lineSquares (now (line .entry)) (now (bins .entry)) j ⌝ }
-{
-    kept_line(line, bins, j, own);
-    line_squares(own)
-}
-
-// Bin j. Most bins of a part are empty: their squares are not gone through.
-fn bin_of(line: &[i16], bins: &[u16], j: u16, own: &mut [i16]) -> Bin
-    requires { ⌜ Binned (now line) (now bins) × (length (now own) ≡ length (now bins)) ⌝ }
+// Bin j. Bins outside the range are empty, and one that is the whole range has all samples: neither is gone through.
+fn bin_of(line: &[i16], bins: &[u16], range: Range, j: u16, own: &mut [i16]) -> Bin
+    requires { ⌜ Binned (now line) (now bins) × Between (now bins) (range .least) (range .greatest) × (length (now own) ≡ length (now bins)) ⌝ }
     ensures { λ r. ⌜ (r .count ≡ lineCount (now (bins .entry)) j) × (r .squares ≡ lineSquares (now (line .entry)) (now (bins .entry)) j) ⌝ }
 {
-    let count = bin_count(bins, j);
-    if count == 0 {
+    if j < range.least {
         return Bin {
             count: 0,
             squares: 0,
         };
     }
-    let count = count as u64;
-    let squares = bin_squares(line, bins, j, own);
+    if range.greatest < j {
+        return Bin {
+            count: 0,
+            squares: 0,
+        };
+    }
+    if range.least == range.greatest {
+        let count = bins.len() as u64;
+        let squares = line_squares(line);
+        return Bin { count, squares };
+    }
+    let count = keep_bin(line, bins, j, own) as u64;
+    let squares = line_squares(own);
     Bin { count, squares }
 }
 
@@ -111,66 +125,36 @@ fn add_bins(
     count: &mut [u64],
     squares: &mut [u64],
 )
-    requires { ⌜ Binned (now line) (now bins) × (length (now own) ≡ length (now bins)) × Tables bits (now count) (now squares) (lineCount (now bins)) (lineSquares (now line) (now bins)) ⌝ }
-    ensures { λ _. ⌜ (now (count .exit) ≡ increased (now (count .entry)) (2 ^ bits) (lineCount (now (bins .entry)))) × (now (squares .exit) ≡ increased (now (squares .entry)) (2 ^ bits) (lineSquares (now (line .entry)) (now (bins .entry)))) ⌝ }
+    requires { ⌜ Binned (now line) (now bins) × (length (now own) ≡ length (now bins)) × Tables bits (length (now bins)) (now count) (now squares) ⌝ }
+    ensures { λ _. ⌜ Added bits (now (count .entry)) (now (squares .entry)) (lineCount (now (bins .entry))) (lineSquares (now (line .entry)) (now (bins .entry))) (now (count .exit)) (now (squares .exit)) ⌝ }
 {
-    let mut j = 0usize;
-    while j < count.len() {
-        let b = bin_of(line, bins, j as u16, own);
-        count[j] = count[j] + b.count;
-        squares[j] = squares[j] + b.squares;
-        j += 1usize;
+    let range = range_of(bins);
+    for j in 0..count.len() {
+        let bin = bin_of(line, bins, range, j as u16, own);
+        count[j] = count[j] + bin.count;
+        squares[j] = squares[j] + bin.squares;
     }
 }
 
-// Whether the samples of a part are low; where they are, every bin's count and squares are added to the tables. The lines have a place for each sample.
-fn add_in(
-    src: &[u16],
-    den: &[u16],
-    depth: u8,
-    bits: u32,
-    noise: &mut [i16],
-    line: &mut [i16],
-    bins: &mut [u16],
-    count: &mut [u64],
-    squares: &mut [u64],
-) -> bool
-    requires { ⌜ Pair 256 depth (now src) (now den) × (length (now noise) ≡ length (now src)) × (length (now line) ≡ length (now src)) × (length (now bins) ≡ length (now src)) × (bothLow depth (now src) (now den) ≡ true → Tables bits (now count) (now squares) (binCount bits (depth - 8) (now src)) (binSquares bits (depth - 8) (now src) (now den))) ⌝ }
-    ensures { λ r. ⌜ LowThen r depth (now (src .entry)) (now (den .entry)) ((now (count .exit) ≡ increased (now (count .entry)) (2 ^ bits) (binCount bits (depth - 8) (now (src .entry)))) × (now (squares .exit) ≡ increased (now (squares .entry)) (2 ^ bits) (binSquares bits (depth - 8) (now (src .entry)) (now (den .entry))))) ⌝ }
-{
-    if shifted_part(src, den, depth, noise, line) {
-        bin_line(src, depth as u32 - bits, bins);
-        add_bins(line, bins, bits, noise, count, squares);
-        return true;
-    }
-    false
-}
-
-// The same, with lines of its own.
+// The bins of a part, from a start and by a stride, added to the tables. The three lines have a place for each sample.
 pub fn add_part(
     src: &[u16],
     den: &[u16],
+    start: usize,
+    stride: usize,
     depth: u8,
     bits: u32,
+    line: &mut [i16],
+    bins: &mut [u16],
+    own: &mut [i16],
     count: &mut [u64],
     squares: &mut [u64],
-) -> bool
-    requires { ⌜ Pair 256 depth (now src) (now den) × (bothLow depth (now src) (now den) ≡ true → Tables bits (now count) (now squares) (binCount bits (depth - 8) (now src)) (binSquares bits (depth - 8) (now src) (now den))) ⌝ }
-    ensures { λ r. ⌜ LowThen r depth (now (src .entry)) (now (den .entry)) ((now (count .exit) ≡ increased (now (count .entry)) (2 ^ bits) (binCount bits (depth - 8) (now (src .entry)))) × (now (squares .exit) ≡ increased (now (squares .entry)) (2 ^ bits) (binSquares bits (depth - 8) (now (src .entry)) (now (den .entry))))) ⌝ }
+)
+    requires { ⌜ Run depth (now src) (now den) start stride (length (now line)) × (length (now line) ≤ partLimit) × (length (now bins) ≡ length (now line)) × (length (now own) ≡ length (now line)) × Tables bits (length (now line)) (now count) (now squares) ⌝ }
+    ensures { λ _. ⌜ RunAdded bits depth (now (src .entry)) (now (den .entry)) start stride (length (now (line .entry))) (now (count .entry)) (now (squares .entry)) (now (count .exit)) (now (squares .exit)) ⌝ }
 {
-    let mut noise = blank_line();
-    let mut line = blank_line();
-    let mut bins = blank_bins();
-    let n = src.len();
-    add_in(
-        src,
-        den,
-        depth,
-        bits,
-        &mut noise[..n],
-        &mut line[..n],
-        &mut bins[..n],
-        count,
-        squares,
-    )
+    let shift = (depth - 8) as u32;
+    let coarse = depth as u32 - bits;
+    part_lines(src, den, start, stride, shift, coarse, line, bins);
+    add_bins(line, bins, bits, own, count, squares);
 }

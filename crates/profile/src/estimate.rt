@@ -3,34 +3,26 @@ use crate::ChromaProfile;
 use crate::LumaProfile;
 use crate::NoiseEstimate;
 use crate::profiles::plane_profile;
+use frame::Component;
 use frame::Shape;
+use frame::View;
 ghost use mathlib.Core.Path.{_≡_};
-ghost use Prim.Native.Nat.{_^_};
-ghost use Rattle.profile.specs.Parts.{Pair, LowThen};
+ghost use Rattle.frame.specs.View.{viewed};
+ghost use Rattle.profile.specs.Runs.{SeenAt};
 ghost use Rattle.profile.specs.Answers.{lumaProfile, chromaProfile, noEstimate, estimateAnswer};
 
-// Whether the samples of a luma plane are low, and where they are, its profile; and of a chroma plane.
-pub struct Luma {
-    pub low: bool,
-    pub profile: LumaProfile,
-}
-
-pub struct Chroma {
-    pub low: bool,
-    pub profile: ChromaProfile,
-}
-
 // Eight bins, with 64 samples at least.
-fn luma_profile(src: &[u16], den: &[u16], depth: u8) -> Luma
-    requires { ⌜ Pair (2 ^ 24) depth (now src) (now den) ⌝ }
-    ensures { λ r. ⌜ LowThen (r .low) depth (now (src .entry)) (now (den .entry)) (r .profile ≡ lumaProfile depth (now (src .entry)) (now (den .entry))) ⌝ }
+fn luma_profile(src: &[u16], den: &[u16], view: View, depth: u8) -> LumaProfile
+    requires { ⌜ SeenAt depth view (now src) (now den) ⌝ }
+    ensures { λ r. ⌜ r ≡ lumaProfile depth (viewed view (now (src .entry))) (viewed view (now (den .entry))) ⌝ }
 {
-    let mut bin_sigma16 = [0u64; 8];
-    let mut bin_count = [0u64; 8];
-    let mut bin_squares = [0u64; 8];
-    let plane = plane_profile(
+    let mut bin_sigma16 = [0; 8];
+    let mut bin_count = [0; 8];
+    let mut bin_squares = [0; 8];
+    let sigma16 = plane_profile(
         src,
         den,
+        view,
         depth,
         3,
         64,
@@ -38,30 +30,26 @@ fn luma_profile(src: &[u16], den: &[u16], depth: u8) -> Luma
         &mut bin_count,
         &mut bin_squares,
     );
-    let sigma16 = plane.sigma16;
-    let profile = LumaProfile {
+    LumaProfile {
         sigma16,
         bin_sigma16,
         bin_count,
         bin_squares,
-    };
-    Luma {
-        low: plane.low,
-        profile,
     }
 }
 
 // Four bins, with 32 samples at least.
-fn chroma_profile(src: &[u16], den: &[u16], depth: u8) -> Chroma
-    requires { ⌜ Pair (2 ^ 24) depth (now src) (now den) ⌝ }
-    ensures { λ r. ⌜ LowThen (r .low) depth (now (src .entry)) (now (den .entry)) (r .profile ≡ chromaProfile depth (now (src .entry)) (now (den .entry))) ⌝ }
+fn chroma_profile(src: &[u16], den: &[u16], view: View, depth: u8) -> ChromaProfile
+    requires { ⌜ SeenAt depth view (now src) (now den) ⌝ }
+    ensures { λ r. ⌜ r ≡ chromaProfile depth (viewed view (now (src .entry))) (viewed view (now (den .entry))) ⌝ }
 {
-    let mut bin_sigma16 = [0u64; 4];
-    let mut bin_count = [0u64; 4];
-    let mut bin_squares = [0u64; 4];
-    let plane = plane_profile(
+    let mut bin_sigma16 = [0; 4];
+    let mut bin_count = [0; 4];
+    let mut bin_squares = [0; 4];
+    let sigma16 = plane_profile(
         src,
         den,
+        view,
         depth,
         2,
         32,
@@ -69,16 +57,11 @@ fn chroma_profile(src: &[u16], den: &[u16], depth: u8) -> Chroma
         &mut bin_count,
         &mut bin_squares,
     );
-    let sigma16 = plane.sigma16;
-    let profile = ChromaProfile {
+    ChromaProfile {
         sigma16,
         bin_sigma16,
         bin_count,
         bin_squares,
-    };
-    Chroma {
-        low: plane.low,
-        profile,
     }
 }
 
@@ -88,15 +71,15 @@ fn refused(number: u32) -> NoiseEstimate
 {
     let luma = LumaProfile {
         sigma16: 0,
-        bin_sigma16: [0u64; 8],
-        bin_count: [0u64; 8],
-        bin_squares: [0u64; 8],
+        bin_sigma16: [0; 8],
+        bin_count: [0; 8],
+        bin_squares: [0; 8],
     };
     let chroma = ChromaProfile {
         sigma16: 0,
-        bin_sigma16: [0u64; 4],
-        bin_count: [0u64; 4],
-        bin_squares: [0u64; 4],
+        bin_sigma16: [0; 4],
+        bin_count: [0; 4],
+        bin_squares: [0; 4],
     };
     NoiseEstimate {
         refusal: number,
@@ -106,45 +89,26 @@ fn refused(number: u32) -> NoiseEstimate
     }
 }
 
-// The profiles of a frame's planes; the last question, about samples, is asked along with the work.
+// The profiles of a frame's planes.
 pub fn noise_estimate(
     s: Shape,
     y: &[u16],
     cb: &[u16],
     cr: &[u16],
-    dy: &[u16],
-    dcb: &[u16],
-    dcr: &[u16],
+    y_den: &[u16],
+    cb_den: &[u16],
+    cr_den: &[u16],
 ) -> NoiseEstimate
-    ensures { λ r. ⌜ r ≡ estimateAnswer s (now (y .entry)) (now (cb .entry)) (now (cr .entry)) (now (dy .entry)) (now (dcb .entry)) (now (dcr .entry)) ⌝ }
+    ensures { λ r. ⌜ r ≡ estimateAnswer s (now (y .entry)) (now (cb .entry)) (now (cr .entry)) (now («y_den» .entry)) (now («cb_den» .entry)) (now («cr_den» .entry)) ⌝ }
 {
-    let refusal = frame::frame_numbers(
-        s,
-        y.len(),
-        cb.len(),
-        cr.len(),
-        dy.len(),
-        dcb.len(),
-        dcr.len(),
-    );
+    let refusal = frame::frame_refusal(s, y, cb, cr, y_den, cb_den, cr_den);
     if refusal != 0 {
         return refused(refusal);
     }
-    let l = luma_profile(y, dy, s.depth);
-    if !l.low {
-        return refused(6);
-    }
-    let b = chroma_profile(cb, dcb, s.depth);
-    if !b.low {
-        return refused(6);
-    }
-    let r = chroma_profile(cr, dcr, s.depth);
-    if !r.low {
-        return refused(6);
-    }
-    let luma = l.profile;
-    let blue = b.profile;
-    let red = r.profile;
+    let chroma = s.view(Component::CbCr);
+    let luma = luma_profile(y, y_den, s.view(Component::Y), s.depth);
+    let blue = chroma_profile(cb, cb_den, chroma, s.depth);
+    let red = chroma_profile(cr, cr_den, chroma, s.depth);
     NoiseEstimate {
         refusal: 0,
         luma,

@@ -1,8 +1,8 @@
 // The noise of a plane and of a frame, as sigma16: for a plane, and for bins of its samples.
-mod parts; // parts of a plane: questions, and noise
-mod planes; // sigma16 of a plane
+mod lines; // the lines of a part: shifted noise, and bins
 mod bins; // the bins of a part
 mod profiles; // the profile of a plane
+mod planes; // sigma16 of a plane
 mod estimate; // the profiles of a frame
 
 pub use estimate::noise_estimate;

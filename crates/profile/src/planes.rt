@@ -1,54 +1,44 @@
-// A plane, part by part.
+// Sigma16 of a plane.
 use crate::Sigma;
-use crate::parts::Squares;
-use crate::parts::part_size;
-use crate::parts::part_squares;
+use crate::profiles::plane_profile;
+use frame::View;
 ghost use mathlib.Core.Path.{_≡_};
-ghost use Prim.Native.Nat.{_-_, _^_};
-ghost use Rattle.profile.specs.Steps.{planeSquares};
 ghost use Rattle.profile.specs.Answers.{sigmaAnswer};
-ghost use Rattle.profile.specs.Parts.{Pair, LowThen};
 
-// The same of a plane, part by part; a part whose samples are not low ends it.
-fn plane_squares(src: &[u16], den: &[u16], depth: u8) -> Squares
-    requires { ⌜ Pair (2 ^ 24) depth (now src) (now den) ⌝ }
-    ensures { λ r. ⌜ LowThen (r .low) depth (now (src .entry)) (now (den .entry)) (r .sum ≡ planeSquares (depth - 8) (now (src .entry)) (now (den .entry))) ⌝ }
-{
-    let n = src.len();
-    let mut sum = 0u64;
-    let mut from = 0usize;
-    while from < n {
-        let to = from + part_size(n - from);
-        let part = part_squares(&src[from..to], &den[from..to], depth);
-        if !part.low {
-            return Squares { low: false, sum: 0 };
-        }
-        sum = sum + part.sum;
-        from = to;
-    }
-    Squares { low: true, sum }
-}
-
-// round(16 × root(sum of d² / count)), d the noise shifted right by depth − 8; 0 for an empty plane.
+// round(16 × root(sum of d² / count)), d the noise shifted right by depth − 8; 0 for an empty plane. It is the figure of a profile with one bin.
 pub fn plane_sigma16(src: &[u16], den: &[u16], width: usize, height: usize, depth: u8) -> Sigma
     ensures { λ r. ⌜ r ≡ sigmaAnswer width height depth (now (src .entry)) (now (den .entry)) ⌝ }
 {
-    let refusal = frame::pair_numbers(width, height, depth, src.len(), den.len());
+    let refusal = frame::pair_refusal(src, den, width, height, depth);
     if refusal != 0 {
         return Sigma {
             refusal,
             sigma16: 0,
         };
     }
-    let squares = plane_squares(src, den, depth);
-    if !squares.low {
-        return Sigma {
-            refusal: 6,
-            sigma16: 0,
-        };
-    }
+    let view = View {
+        start: 0,
+        step: width,
+        stride: 1,
+        width,
+        height,
+    };
+    let mut sigma = [0; 1];
+    let mut count = [0; 1];
+    let mut squares = [0; 1];
+    let sigma16 = plane_profile(
+        src,
+        den,
+        view,
+        depth,
+        0,
+        1,
+        &mut sigma,
+        &mut count,
+        &mut squares,
+    );
     Sigma {
         refusal: 0,
-        sigma16: float::sigma16(squares.sum, src.len() as u64),
+        sigma16,
     }
 }

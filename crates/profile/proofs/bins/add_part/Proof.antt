@@ -1,42 +1,36 @@
--- `profile::bins::add_part` meets its contract: three lines of its own, as long as the part. Assumes nothing.
-use mathlib.Core.Path.{sym}
+-- `profile::bins::add_part` meets its contract: its lines have its bins. Assumes nothing.
+use mathlib.Core.Path.{sym, _∙_}
 use borrow.Author.Needs.{needs}
-use lib.ListN.{length}
-use lib.Seq.{length-take-le}
+use Rattle.profile.proofs.PartBins.{run-lines, bins-size, part-binned, part-added}
 use Rattle.profile.proofs.bins.add_part.Statement.{statement}
 use Rattle.profile.proofs.bins.add_part.Tie as tie
 
-slice-aggregate-add-in : tie.Need-slice-aggregate-add-in
-slice-aggregate-add-in c = sym (length-take-le (length (c .before .before .before .before .before .before .before .before .args .src .now)) (c .before .before .before .blank-line .result) (search needs))
+part-lines-requires : tie.Need-part-lines-requires
+part-lines-requires c κs = let S = c .before .before .before .before .before .before .before in run-lines (S .pre .0) (S .args .bits) _ (S .pre .2)
 
-slice-aggregate-add-in-2 : tie.Need-slice-aggregate-add-in-2
-slice-aggregate-add-in-2 c = sym (length-take-le (length (c .before .before .before .before .before .before .before .before .before .args .src .now)) (c .before .before .before .blank-line2 .result) (search needs))
-
-slice-aggregate-add-in-3 : tie.Need-slice-aggregate-add-in-3
-slice-aggregate-add-in-3 c = sym (length-take-le (length (c .before .before .before .before .before .before .before .before .before .before .args .src .now)) (c .before .before .before .blank-bins .result) (search needs))
-
-add-in-requires : tie.Need-add-in-requires
-add-in-requires c κs =
-    let S = c .before .before .before .before .before .before .before .before .before .before .before .before in
-    (S .pre .0, sym (slice-aggregate-add-in (c .before .before .before .before)), sym (slice-aggregate-add-in-2 (c .before .before .before)), sym (slice-aggregate-add-in-3 (c .before .before)), S .pre .1)
+add-bins-requires : tie.Need-add-bins-requires
+add-bins-requires c κs =
+    let S = c .before .before .before .before .before .before .before .before .before .before .before .before .before .before .before .before in
+    let T = S .pre .4 in
+    let L = c .before .before .before .before .before .before .before .before .part-lines .ensures in
+    let size = bins-size (S .pre .0) (T .narrow) L in
+    (part-binned (S .pre .0) (T .narrow) L (S .pre .1), S .pre .3 ∙ sym size, rw size T)
 
 returns : tie.Need-returns
-returns c = c .before .before .before .before .before .before .before .add-in .ensures
+returns c = let S = c .before .before .before .before .before .before .before .before .before .before .before .before .before .before .before .before .before .before .before .before .before .before in part-added (S .pre .0) (S .pre .4 .narrow) (c .before .before .before .before .before .before .before .before .before .before .before .before .before .before .part-lines .ensures) (c .before .before .before .before .before .add-bins .ensures)
 
 pub add-part-spec : {M : Type 1} → statement M
 add-part-spec =
     tie.close
     (tie.spec
-    (λ c κs. search needs)
-    (λ c κs. search needs)
-    (λ c κs. search needs)
     (λ c. search needs)
-    slice-aggregate-add-in
     (λ c. search needs)
-    slice-aggregate-add-in-2
     (λ c. search needs)
-    slice-aggregate-add-in-3
-    add-in-requires
+    part-lines-requires
+    add-bins-requires
+    (λ c. search needs)
+    (λ c. search needs)
+    (λ c. search needs)
     (λ c. search needs)
     (λ c. search needs)
     returns)

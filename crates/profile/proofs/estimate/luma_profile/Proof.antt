@@ -1,15 +1,12 @@
 -- `profile::estimate::luma_profile` meets its contract: the figures of the plane's profile. Assumes nothing.
 use borrow.Author.Needs.{needs}
 use Rattle.profile.specs.Answers.{lumaOf}
+use Rattle.profile.proofs.Figures.{profile-is}
 use Rattle.profile.proofs.estimate.luma_profile.Statement.{statement}
 use Rattle.profile.proofs.estimate.luma_profile.Tie as tie
 
 returns : tie.Need-returns
-returns c =
-    let E = c .before .before .before .plane-profile .ensures in (
-      E .0,
-      λ t i. lumaOf (record { sigma16 = E .1 t .plane-is i; binSigma16 = E .1 t .sigma-is i; count = E .1 t .count-is i; squares = E .1 t .squares-is i }),
-    )
+returns c = λ i. lumaOf (profile-is (c .before .before .before .plane-profile .ensures) i)
 
 pub luma-profile-spec : {M : Type 1} → statement M
 luma-profile-spec =
@@ -18,5 +15,5 @@ luma-profile-spec =
     (λ c. search needs)
     (λ c. search needs)
     (λ c. search needs)
-    (λ c κs. search needs)
+    (λ c. search needs)
     returns)

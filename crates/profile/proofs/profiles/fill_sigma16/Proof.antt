@@ -1,24 +1,20 @@
 -- `profile::profiles::fill_sigma16` meets its contract: the bins passed have their sigma16. Assumes nothing.
 use Prim.Native.Nat.{_-_}
-use native.Mathlib.Omega.{arith}
 use borrow.Author.Needs.{needs}
-use lib.ListN.{length, getD, length-set}
+use lib.ListN.{length, getD}
 use Rattle.laws.proofs.Fill.{Filled, fill-starts, fill-turn, fill-ends}
 use Rattle.profile.specs.Steps.{sigmaOfBin}
 use Rattle.profile.proofs.profiles.fill_sigma16.Statement.{statement}
 use Rattle.profile.proofs.profiles.fill_sigma16.Tie as tie
 
 abbrev Inv-loop : tie.InvT-loop
-Inv-loop enough plane count squares sigma₀ j₀ sigma j = Filled (λ k. sigmaOfBin enough plane (getD squares k 0) (getD count k 0)) sigma₀ sigma j
+Inv-loop enough plane count squares sigma₀ j₀ j-end sigma j = Filled (λ k. sigmaOfBin enough plane (getD squares k 0) (getD count k 0)) sigma₀ sigma j
 
 abbrev μ-loop : tie.MeasureT-loop
-μ-loop enough plane count squares sigma₀ j₀ sigma j = length sigma - j
+μ-loop enough plane count squares sigma₀ j₀ j-end sigma j = length sigma₀ - j
 
 loop-holds : tie.Need-loop-holds Inv-loop μ-loop
 loop-holds c = fill-starts _ _
-
-loop-less : tie.Need-loop-less Inv-loop μ-loop
-loop-less c = simp length-set (omega arith)
 
 loop-again : tie.Need-loop-again Inv-loop μ-loop
 loop-again c = fill-turn _ _ _ (c .before .before .before .before .loop .inv) (search needs) (c .bin-sigma16 .ensures)
@@ -37,11 +33,11 @@ fill-sigma16-spec =
     (λ c. search needs)
     (λ c. search needs)
     (λ c. search needs)
-    (λ c κs. search needs)
     (λ c. search needs)
     (λ c. search needs)
     (λ c. search needs)
-    loop-less
+    (λ c. search needs)
+    (λ c. search needs)
     loop-again
     (λ c. search needs)
     returns)

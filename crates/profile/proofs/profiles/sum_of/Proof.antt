@@ -1,5 +1,5 @@
 -- `profile::profiles::sum_of` meets its contract: the sum of the numbers passed, which is no more than that of all. Assumes nothing.
-use mathlib.Core.Path.{_≡_, refl, sym, ap, _∙_}
+use mathlib.Core.Path.{_≡_, refl, ap, _∙_}
 use Prim.Native.Nat.{ℕ, _+_, _-_, _≤_}
 use native.Mathlib.Omega.{arith}
 use borrow.Author.Needs.{needs}
@@ -10,10 +10,10 @@ use Rattle.profile.proofs.profiles.sum_of.Statement.{statement}
 use Rattle.profile.proofs.profiles.sum_of.Tie as tie
 
 abbrev Inv-loop : tie.InvT-loop
-Inv-loop xs sum₀ i₀ sum i = (i ≤ length xs) × (sum ≡ sumN (λ k. getD xs k 0) i)
+Inv-loop xs sum₀ i₀ i-end sum i = (i ≤ length xs) × (sum ≡ sumN (λ k. getD xs k 0) i)
 
 abbrev μ-loop : tie.MeasureT-loop
-μ-loop xs sum₀ i₀ sum i = length xs - i
+μ-loop xs sum₀ i₀ i-end sum i = length xs - i
 
 loop-holds : tie.Need-loop-holds Inv-loop μ-loop
 unfolding total

@@ -1,4 +1,4 @@
--- `profile::parts::line_squares` meets its contract: `dot` of the line with itself is the sum of its squares. Assumes nothing.
+-- `profile::bins::line_squares` meets its contract: `dot` of the line with itself is the sum of its squares. Assumes nothing.
 use mathlib.Core.Path.{_≡_, ap, _∙_}
 use native.Mathlib.Omega.{arith}
 use lib.IntN.{pos, natAbs}
@@ -10,8 +10,8 @@ use Rattle.noise.specs.Lines.{at}
 use Rattle.laws.specs.Sums.{sumN}
 use Rattle.profile.specs.Shifted.{squareOf}
 use Rattle.profile.proofs.Squares.{square-lines, dot-squares, squares-le}
-use Rattle.profile.proofs.parts.line_squares.Statement.{statement}
-use Rattle.profile.proofs.parts.line_squares.Tie as tie
+use Rattle.profile.proofs.bins.line_squares.Statement.{statement}
+use Rattle.profile.proofs.bins.line_squares.Tie as tie
 
 dot-requires : tie.Need-dot-requires
 dot-requires c κs = square-lines (c .pre)
