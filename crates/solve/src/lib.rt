@@ -4,7 +4,8 @@ ghost use mathlib.Core.List.{[]};
 ghost use Prim.Native.Nat.{_<_, _≤_};
 ghost use lib.Ieee.{nan};
 ghost use Rattle.solve.specs.Elimination.{System, pivotOf, swapped, cleared, unknownOf, substituted};
-ghost use Rattle.solve.specs.Answer.{refusalOf, unsolvedOf, solvedOf};
+ghost use Rattle.solve.specs.Answer.{refused, solvedOf};
+ghost use Rattle.solve.specs.Rows.{lessRow};
 
 // A count with 25 values; the unused ones are plus zero.
 #[repr(C)]
@@ -22,9 +23,9 @@ pub struct Solved {
 }
 
 // The first row from i on with the largest |a[r][i]|.
-fn pivot_row(a: [[f64; 25]; 25], order: usize, i: usize) -> usize
+fn pivot_row(a: &[[f64; 25]; 25], order: usize, i: usize) -> usize
     requires { ⌜ (i < order) × (order ≤ 25) ⌝ }
-    ensures { λ r. ⌜ (r ≡ pivotOf order a i) × (r < order) ⌝ }
+    ensures { λ r. ⌜ (r ≡ pivotOf order (now (a .entry)) i) × (r < order) ⌝ }
 {
     let mut piv = i;
     for r in i + 1..order {
@@ -59,6 +60,18 @@ fn exchange_values(b: [f64; 25], i: usize, j: usize) -> [f64; 25]
     v
 }
 
+// A row less f × the pivot's row, from column i on.
+fn less_row(row: [f64; 25], pivot: &[f64; 25], f: f64, i: usize, order: usize) -> [f64; 25]
+    requires { ⌜ (i < order) × (order ≤ 25) ⌝ }
+    ensures { λ r. ⌜ r ≡ lessRow order i f (now (pivot .entry)) row ⌝ }
+{
+    let mut left = row;
+    for c in i..order {
+        left[c] = left[c] - f * pivot[c];
+    }
+    left
+}
+
 // Row i, times a[r][i] / a[i][i], taken from each row r below it.
 fn eliminate_below(a: [[f64; 25]; 25], b: &mut [f64; 25], i: usize, order: usize) -> [[f64; 25]; 25]
     requires { ⌜ (i < order) × (order ≤ 25) ⌝ }
@@ -67,18 +80,16 @@ fn eliminate_below(a: [[f64; 25]; 25], b: &mut [f64; 25], i: usize, order: usize
     let mut m = a;
     for r in i + 1..order {
         let f = m[r][i] / m[i][i];
-        for c in i..order {
-            m[r][c] = m[r][c] - f * m[i][c];
-        }
+        m[r] = less_row(m[r], &m[i], f, i, order);
         b[r] = b[r] - f * b[i];
     }
     m
 }
 
 // x[i] = (right - Σ row[j] × x[j], over j above i) / row[i].
-fn unknown(row: [f64; 25], right: f64, x: [f64; 25], i: usize, order: usize) -> f64
+fn unknown(row: &[f64; 25], right: f64, x: &[f64; 25], i: usize, order: usize) -> f64
     requires { ⌜ (i < order) × (order ≤ 25) ⌝ }
-    ensures { λ r. ⌜ r ≡ unknownOf order row right x i ⌝ }
+    ensures { λ r. ⌜ r ≡ unknownOf order (now (row .entry)) right (now (x .entry)) i ⌝ }
 {
     let mut v = right;
     for j in i + 1..order {
@@ -88,40 +99,28 @@ fn unknown(row: [f64; 25], right: f64, x: [f64; 25], i: usize, order: usize) -> 
 }
 
 // The unknowns, the last first.
-fn back_substitute(a: [[f64; 25]; 25], b: [f64; 25], order: usize) -> [f64; 25]
+fn back_substitute(a: &[[f64; 25]; 25], b: &[f64; 25], order: usize) -> [f64; 25]
     requires { ⌜ order ≤ 25 ⌝ }
-    ensures { λ r. ⌜ r ≡ substituted order (record { matrix = a; right = b }) ⌝ }
+    ensures { λ r. ⌜ r ≡ substituted order (record { matrix = now (a .entry); right = now (b .entry) }) ⌝ }
 {
-    let mut x = [0.0f64; 25];
+    let mut x = [0.0; 25];
     for n in 0..order {
         let i = order - 1 - n;
-        x[i] = unknown(a[i], b[i], x, i, order);
+        x[i] = unknown(&a[i], b[i], &x, i, order);
     }
     x
 }
 
-// Is the order 1 to 25?
-fn refusal(order: usize) -> u32
-    ensures { λ r. ⌜ r ≡ refusalOf order ⌝ }
-{
-    if 1 <= order {
-        if order <= 25 {
-            return 0;
-        }
-    }
-    8
-}
-
-// Refused, or with 0 no solution.
-fn unsolved(refusal: u32) -> Solved
-    ensures { λ r. ⌜ r ≡ unsolvedOf refusal ⌝ }
+// A refusal's number and zeros; with 0, the answer that there is no solution.
+fn refused(refusal: u32) -> Solved
+    ensures { λ r. ⌜ r ≡ refused refusal ⌝ }
 {
     Solved {
         refusal,
         found: false,
         solution: Solution {
             order: 0,
-            values: [0.0f64; 25],
+            values: [0.0; 25],
         },
     }
 }
@@ -130,22 +129,22 @@ fn unsolved(refusal: u32) -> Solved
 pub fn solve_normal(a: [[f64; 25]; 25], b: [f64; 25], order: usize) -> Solved
     ensures { λ r. ⌜ r ≡ solvedOf a b order ⌝ }
 {
-    let refused = refusal(order);
-    if refused != 0 {
-        return unsolved(refused);
+    let refusal = frame::order_refusal(order);
+    if refusal != 0 {
+        return refused(refusal);
     }
     let mut m = a;
     let mut right = b;
     for i in 0..order {
-        let piv = pivot_row(m, order, i);
+        let piv = pivot_row(&m, order, i);
         m = exchange_rows(m, i, piv);
         right = exchange_values(right, i, piv);
         if float::magnitude(m[i][i]) < 1e-9 {
-            return unsolved(0);
+            return refused(0);
         }
         m = eliminate_below(m, &mut right, i, order);
     }
-    let values = back_substitute(m, right, order);
+    let values = back_substitute(&m, &right, order);
     Solved {
         refusal: 0,
         found: true,

@@ -1,0 +1,44 @@
+-- `solve::less_row` meets its contract: a turn takes one entry more. Assumes nothing.
+use mathlib.Core.Path.{refl}
+use Prim.Native.Nat.{_-_}
+use borrow.Author.Needs.{needs}
+use Rattle.laws.proofs.Turns.{Turned, turned-starts, turned-more, turned-ends}
+use Rattle.solve.specs.Rows.{entryLess, lessRow}
+use Rattle.solve.proofs.less_row.Statement.{statement}
+use Rattle.solve.proofs.less_row.Tie as tie
+
+abbrev Inv-loop : tie.InvT-loop
+Inv-loop pivot f i order left₀ c₀ left c = Turned (entryLess f pivot) i order left₀ c left
+
+abbrev μ-loop : tie.MeasureT-loop
+μ-loop pivot f i order left₀ c₀ left c = order - c
+
+loop-holds : tie.Need-loop-holds Inv-loop μ-loop
+loop-holds c = turned-starts _ _ _ _ (search needs)
+
+loop-again : tie.Need-loop-again Inv-loop μ-loop
+unfolding entryLess
+loop-again c =
+    let at = c .before .before in turned-more _ _ _ _ _ (at .loop .inv) (c .before .loop-test .taken) refl
+
+returns : tie.Need-returns Inv-loop μ-loop
+unfolding lessRow
+returns c = turned-ends _ _ _ _ (c .before .loop .inv) (c .loop-test .left)
+
+pub less-row-spec : {M : Type 1} → statement M
+less-row-spec =
+    tie.close
+    (tie.spec
+    Inv-loop
+    μ-loop
+    loop-holds
+    (λ c. search needs)
+    (λ c. search needs)
+    (λ c. search needs)
+    (λ c. search needs)
+    (λ c. search needs)
+    (λ c. search needs)
+    (λ c. search needs)
+    (λ c. search needs)
+    loop-again
+    returns)
