@@ -28,10 +28,13 @@ module _ (p i r : ℕ) (f : Float) (a : Matrix) (other : i ≢ r) where
   rows-apart l =
       loops-together (λ _ m row. m ≡ set a r row) i p (cellLess i r f) (entryLess f (getD a i [])) step l a (getD a r []) (sym (set-getD a r []))
 
--- a row cleared, from what is left of it
-pub row-cleared-is : (p i r : ℕ) (a : Matrix) (b row : Row) → i < p → i < r
-    → (let f = div binary64 (cell a r i) (cell a i i) in
-    row ≡ lessRow p i f (getD a i []) (getD a r [])
+-- a row cleared, from what is left of it: the pivot's row is as it was
+pub pivot-stays : (i r : ℕ) (a : Matrix) (pivot row : Row) → i < r → pivot ≡ getD a i [] → pivot ≡ getD (set a r row) i []
+pivot-stays i r a pivot row l q = q ∙ sym (getD-set-other a r i row [] (λ d. omega arith))
+
+pub row-cleared-is : (p i r : ℕ) (a : Matrix) (b pivot row : Row) → i < p → i < r → pivot ≡ getD a i []
+    → (let f = div binary64 (cell a r i) (value pivot i) in
+    row ≡ lessRow p i f pivot (getD a r [])
     → _≡_ {A = System} (record { matrix = set a r row; right = set b r (less (value b r) f (value b i)) }) (rowCleared p i r (record { matrix = a; right = b })))
 unfolding rowCleared rowLess
-row-cleared-is p i r a b row l m e = rw (e, rows-apart p i r (div binary64 (cell a r i) (cell a i i)) a (λ d. omega arith) (omega arith))
+row-cleared-is p i r a b pivot row l m q e = rw (e, q, rows-apart p i r (div binary64 (cell a r i) (cell a i i)) a (λ d. omega arith) (omega arith))

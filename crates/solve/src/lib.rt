@@ -37,53 +37,54 @@ fn pivot_row(a: &[[f64; 25]; 25], order: usize, i: usize) -> usize
 }
 
 // Rows i and j exchanged.
-fn exchange_rows(a: [[f64; 25]; 25], i: usize, j: usize) -> [[f64; 25]; 25]
+fn exchange_rows(mut a: [[f64; 25]; 25], i: usize, j: usize) -> [[f64; 25]; 25]
     requires { ⌜ (i < 25) × (j < 25) ⌝ }
     ensures { λ r. ⌜ r ≡ swapped [] a i j ⌝ }
 {
-    let mut m = a;
-    let t = m[i];
-    m[i] = m[j];
-    m[j] = t;
-    m
+    let row = a[i];
+    a[i] = a[j];
+    a[j] = row;
+    a
 }
 
 // Values i and j exchanged.
-fn exchange_values(b: [f64; 25], i: usize, j: usize) -> [f64; 25]
+fn exchange_values(mut b: [f64; 25], i: usize, j: usize) -> [f64; 25]
     requires { ⌜ (i < 25) × (j < 25) ⌝ }
     ensures { λ r. ⌜ r ≡ swapped nan b i j ⌝ }
 {
-    let mut v = b;
-    let t = v[i];
-    v[i] = v[j];
-    v[j] = t;
-    v
+    let value = b[i];
+    b[i] = b[j];
+    b[j] = value;
+    b
 }
 
 // A row less f × the pivot's row, from column i on.
-fn less_row(row: [f64; 25], pivot: &[f64; 25], f: f64, i: usize, order: usize) -> [f64; 25]
+fn less_row(row: &mut [f64; 25], pivot: &[f64; 25], f: f64, i: usize, order: usize)
     requires { ⌜ (i < order) × (order ≤ 25) ⌝ }
-    ensures { λ r. ⌜ r ≡ lessRow order i f (now (pivot .entry)) row ⌝ }
+    ensures { λ _. ⌜ now (row .exit) ≡ lessRow order i f (now (pivot .entry)) (now (row .entry)) ⌝ }
 {
-    let mut left = row;
     for c in i..order {
-        left[c] = left[c] - f * pivot[c];
+        row[c] = row[c] - f * pivot[c];
     }
-    left
 }
 
 // Row i, times a[r][i] / a[i][i], taken from each row r below it.
-fn eliminate_below(a: [[f64; 25]; 25], b: &mut [f64; 25], i: usize, order: usize) -> [[f64; 25]; 25]
+fn eliminate_below(
+    mut a: [[f64; 25]; 25],
+    b: &mut [f64; 25],
+    i: usize,
+    order: usize,
+) -> [[f64; 25]; 25]
     requires { ⌜ (i < order) × (order ≤ 25) ⌝ }
     ensures { λ r. ⌜ cleared order i (record { matrix = a; right = now (b .entry) }) ≡ record { matrix = r; right = now (b .exit) } ⌝ }
 {
-    let mut m = a;
+    let pivot = a[i];
     for r in i + 1..order {
-        let f = m[r][i] / m[i][i];
-        m[r] = less_row(m[r], &m[i], f, i, order);
+        let f = a[r][i] / pivot[i];
+        less_row(&mut a[r], &pivot, f, i, order);
         b[r] = b[r] - f * b[i];
     }
-    m
+    a
 }
 
 // x[i] = (right - Σ row[j] × x[j], over j above i) / row[i].
@@ -126,25 +127,23 @@ fn refused(refusal: u32) -> Solved
 }
 
 // x with a × x = b, of the first `order` equations.
-pub fn solve_normal(a: [[f64; 25]; 25], b: [f64; 25], order: usize) -> Solved
+pub fn solve_normal(mut a: [[f64; 25]; 25], mut b: [f64; 25], order: usize) -> Solved
     ensures { λ r. ⌜ r ≡ solvedOf a b order ⌝ }
 {
     let refusal = frame::order_refusal(order);
     if refusal != 0 {
         return refused(refusal);
     }
-    let mut m = a;
-    let mut right = b;
     for i in 0..order {
-        let piv = pivot_row(&m, order, i);
-        m = exchange_rows(m, i, piv);
-        right = exchange_values(right, i, piv);
-        if float::magnitude(m[i][i]) < 1e-9 {
+        let piv = pivot_row(&a, order, i);
+        a = exchange_rows(a, i, piv);
+        b = exchange_values(b, i, piv);
+        if float::magnitude(a[i][i]) < 1e-9 {
             return refused(0);
         }
-        m = eliminate_below(m, &mut right, i, order);
+        a = eliminate_below(a, &mut b, i, order);
     }
-    let values = back_substitute(&m, &right, order);
+    let values = back_substitute(&a, &b, order);
     Solved {
         refusal: 0,
         found: true,

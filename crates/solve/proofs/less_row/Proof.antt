@@ -8,18 +8,17 @@ use Rattle.solve.proofs.less_row.Statement.{statement}
 use Rattle.solve.proofs.less_row.Tie as tie
 
 abbrev Inv-loop : tie.InvT-loop
-Inv-loop pivot f i order left₀ c₀ left c = Turned (entryLess f pivot) i order left₀ c left
+Inv-loop row₀ pivot f i order c₀ row c = Turned (entryLess f pivot) i order row₀ c row
 
 abbrev μ-loop : tie.MeasureT-loop
-μ-loop pivot f i order left₀ c₀ left c = order - c
+μ-loop row₀ pivot f i order c₀ row c = order - c
 
 loop-holds : tie.Need-loop-holds Inv-loop μ-loop
 loop-holds c = turned-starts _ _ _ _ (search needs)
 
 loop-again : tie.Need-loop-again Inv-loop μ-loop
 unfolding entryLess
-loop-again c =
-    let at = c .before .before in turned-more _ _ _ _ _ (at .loop .inv) (c .before .loop-test .taken) refl
+loop-again c = let at = c .before .before .before in turned-more _ _ _ _ _ (at .loop .inv) (search needs) refl
 
 returns : tie.Need-returns Inv-loop μ-loop
 unfolding lessRow

@@ -12,17 +12,17 @@ use Rattle.solve.proofs.solve_normal.Statement.{statement}
 use Rattle.solve.proofs.solve_normal.Tie as tie
 
 abbrev Inv-loop : tie.InvT-loop
-Inv-loop order refusal m₀ right₀ i₀ m right i = (order ≤ 25) × Turned (column order) 0 order (going (record { matrix = m₀; right = right₀ })) i (going (record { matrix = m; right = right }))
+Inv-loop order a₀ b₀ refusal i₀ a b i = (order ≤ 25) × Turned (column order) 0 order (going (record { matrix = a₀; right = b₀ })) i (going (record { matrix = a; right = b }))
 
 abbrev μ-loop : tie.MeasureT-loop
-μ-loop order refusal m₀ right₀ i₀ m right i = order - i
+μ-loop order a₀ b₀ refusal i₀ a b i = order - i
 
 -- where the pivot's magnitude is known: one column more
 turned : (c : tie.After-magnitude Inv-loop μ-loop) (t : Bool)
     → lt (c .magnitude .result) limit ≡ t
     → (let at = c .before .before .before .before .before .before .before in
     let args = at .before .before .before .args in
-    Turned (column (args .order)) 0 (args .order) (going (record { matrix = args .a; right = args .b })) (at .loop .i + 1)
+    Turned (column (args .order)) 0 (args .order) (going (record { matrix = args .t1; right = args .t2 })) (at .loop .i + 1)
     (cond t none (going (cleared (args .order) (at .loop .i) (record { matrix = c .before .before .before .exchange-rows .result; right = c .before .before .exchange-values .result })))))
 turned c t h =
     let at = c .before .before .before .before .before .before .before in
