@@ -1,25 +1,16 @@
 -- The answer from where the call ends: refused, at a small pivot, or with every column cleared. Assumes nothing.
 use mathlib.Core.Path.{_≡_, refl, sym, ap, _∙_}
-use mathlib.Core.Bool.{true, and-eq-true-iff}
-use mathlib.Core.List.{[], _∷_}
-use Prim.Native.Nat.{ℕ, _≤_}
-use lib.Dec.{leb}
-use borrow.Author.Tests.{leb-true}
+use mathlib.Core.Bool.{true}
+use Prim.Native.Nat.{ℕ}
 use Rattle.laws.specs.Loop.{loop}
 use Rattle.laws.proofs.Loop.{loop-fixed}
 use Rattle.laws.proofs.Turns.{Turned}
-use Rattle.frame.specs.Questions.{orderKnown}
 use Rattle.frame.specs.Calls.{orderRefusal}
 use Rattle.frame.proofs.Refusal as refusal
 use Rattle.solve.specs.declared.Solved.{Solved}
 use Rattle.solve.specs.Elimination.{Matrix, Row, going, none, column, eliminated, substituted}
 use Rattle.solve.specs.Answer.{refused, answerOf, solvedOf}
 use Rattle.solve.proofs.Column.{none-stays}
-
--- an accepted order
-pub order-fits : (order r : ℕ) → r ≡ orderRefusal order → r ≡ 0 → order ≤ 25
-order-fits order r e z =
-    leb-true order 25 (and-eq-true-iff (leb 1 order) (leb order 25) .0 (refusal.passed (orderKnown order ∷ []) refl (sym e ∙ z) .0) .1)
 
 module _ (a : Matrix) (b : Row) (order r : ℕ) (e : r ≡ orderRefusal order) where
   pub refused-is : (r ≡ 0 → ⊥) → refused r ≡ solvedOf a b order

@@ -1,13 +1,14 @@
 -- `solve::solve_normal` meets its contract. The columns below i are cleared, and no pivot was too small. Assumes nothing.
-use mathlib.Core.Path.{_≡_, _∙_}
+use mathlib.Core.Path.{_≡_, sym, _∙_}
 use mathlib.Core.Bool.{Bool, true, false, cond}
 use Prim.Native.Nat.{_+_, _≤_, _-_}
 use lib.Ieee.{lt}
 use borrow.Author.Needs.{needs}
 use Rattle.laws.proofs.Turns.{Turned, turned-starts, turned-more, turned-ends}
+use Rattle.frame.proofs.Known.{order-fits}
 use Rattle.solve.specs.Elimination.{limit, going, none, cleared, column}
 use Rattle.solve.proofs.Column.{column-is}
-use Rattle.solve.proofs.Answer.{order-fits, refused-is, none-is, found-is}
+use Rattle.solve.proofs.Answer.{refused-is, none-is, found-is}
 use Rattle.solve.proofs.solve_normal.Statement.{statement}
 use Rattle.solve.proofs.solve_normal.Tie as tie
 
@@ -34,7 +35,7 @@ returns : tie.Need-returns Inv-loop μ-loop
 returns c = c .refused .ensures ∙ refused-is _ _ _ _ (c .before .before .order-refusal .ensures) (c .before .if1 .taken)
 
 loop-holds : tie.Need-loop-holds Inv-loop μ-loop
-loop-holds c = (order-fits _ _ (c .before .order-refusal .ensures) (c .if1 .left), turned-starts _ _ _ _ (search needs))
+loop-holds c = (order-fits _ (sym (c .before .order-refusal .ensures) ∙ c .if1 .left), turned-starts _ _ _ _ (search needs))
 
 returns-2 : tie.Need-returns-2 Inv-loop μ-loop
 returns-2 c =
