@@ -5,7 +5,7 @@ ghost use Prim.Native.Nat.{_<_, _≤_};
 ghost use lib.Ieee.{nan};
 ghost use Rattle.solve.specs.Elimination.{System, pivotOf, swapped, cleared, unknownOf, substituted};
 ghost use Rattle.solve.specs.Answer.{refused, solvedOf};
-ghost use Rattle.solve.specs.Rows.{lessRow};
+ghost use Rattle.solve.specs.Rows.{entryLess, factorOf, lessRow};
 
 // A count with 25 values; the unused ones are plus zero.
 #[repr(C)]
@@ -58,14 +58,24 @@ fn exchange_values(mut b: [f64; 25], i: usize, j: usize) -> [f64; 25]
     b
 }
 
-// A row less f × the pivot's row, from column i on.
-fn less_row(row: &mut [f64; 25], pivot: &[f64; 25], f: f64, i: usize, order: usize)
-    requires { ⌜ (i < order) × (order ≤ 25) ⌝ }
-    ensures { λ _. ⌜ now (row .exit) ≡ lessRow order i f (now (pivot .entry)) (now (row .entry)) ⌝ }
+// row[c] less f × v.
+fn less_entry(row: &mut [f64; 25], c: usize, f: f64, v: f64)
+    requires { ⌜ c < 25 ⌝ }
+    ensures { λ _. ⌜ now (row .exit) ≡ entryLess (now (row .entry)) c f v ⌝ }
 {
+    row[c] = row[c] - f * v;
+}
+
+// A row less f × the pivot's row from column i on, for f = row[i] / pivot[i], and f.
+fn less_row(row: &mut [f64; 25], pivot: &[f64; 25], i: usize, order: usize) -> f64
+    requires { ⌜ (i < order) × (order ≤ 25) ⌝ }
+    ensures { λ r. ⌜ (r ≡ factorOf (now (row .entry)) (now (pivot .entry)) i) × (now (row .exit) ≡ lessRow order i r (now (pivot .entry)) (now (row .entry))) ⌝ }
+{
+    let f = row[i] / pivot[i];
     for c in i..order {
-        row[c] = row[c] - f * pivot[c];
+        less_entry(row, c, f, pivot[c]);
     }
+    f
 }
 
 // Row i, times a[r][i] / a[i][i], taken from each row r below it.
@@ -80,9 +90,9 @@ fn eliminate_below(
 {
     let pivot = a[i];
     for r in i + 1..order {
-        let f = a[r][i] / pivot[i];
-        less_row(&mut a[r], &pivot, f, i, order);
-        b[r] = b[r] - f * b[i];
+        let f = less_row(&mut a[r], &pivot, i, order);
+        let right = b[i];
+        less_entry(b, r, f, right);
     }
     a
 }

@@ -21,10 +21,11 @@ loop-holds c = (refl, turned-starts _ _ _ _ (search needs))
 
 loop-again : tie.Need-loop-again Inv-loop μ-loop
 loop-again c =
-    let at = c .before .before .before .before .before .before .before in (
+    let at = c .before .before .before .before .before .before .before in
+    let row = c .before .before .before .less-row .ensures in (
       pivot-stays _ _ (at .loop .a) _ _ (search needs) (at .loop .inv .0),
       turned-more _ _ _ _ _ (at .loop .inv .1) (search needs)
-          (row-cleared-is _ _ _ (at .loop .a) _ _ _ (search needs) (search needs) (at .loop .inv .0) (c .before .before .less-row .ensures)),
+          (rw (c .less-entry .ensures) (row-cleared-is _ _ _ (at .loop .a) _ _ _ _ (search needs) (search needs) (at .loop .inv .0) (row .0) (row .1))),
     )
 
 returns : tie.Need-returns Inv-loop μ-loop
@@ -43,19 +44,10 @@ eliminate-below-spec =
     loop-holds
     (λ c. search needs)
     (λ c. search needs)
-    (λ c. search needs)
-    (λ c. search needs)
-    (λ c. search needs)
-    (λ c. search needs)
-    (λ c. search needs)
-    (λ c. search needs)
     (λ c κs. search needs)
     (λ c. search needs)
     (λ c. search needs)
-    (λ c. search needs)
-    (λ c. search needs)
-    (λ c. search needs)
-    (λ c. search needs)
+    (λ c κs. search needs)
     (λ c. search needs)
     (λ c. search needs)
     loop-again

@@ -3,26 +3,26 @@ use mathlib.Core.Path.{refl}
 use Prim.Native.Nat.{_-_}
 use borrow.Author.Needs.{needs}
 use Rattle.laws.proofs.Turns.{Turned, turned-starts, turned-more, turned-ends}
+use Rattle.solve.specs.Elimination.{value}
 use Rattle.solve.specs.Rows.{entryLess, lessRow}
 use Rattle.solve.proofs.less_row.Statement.{statement}
 use Rattle.solve.proofs.less_row.Tie as tie
 
 abbrev Inv-loop : tie.InvT-loop
-Inv-loop row₀ pivot f i order c₀ row c = Turned (entryLess f pivot) i order row₀ c row
+Inv-loop row₀ pivot i order f c₀ row c = Turned (λ c left. entryLess left c f (value pivot c)) i order row₀ c row
 
 abbrev μ-loop : tie.MeasureT-loop
-μ-loop row₀ pivot f i order c₀ row c = order - c
+μ-loop row₀ pivot i order f c₀ row c = order - c
 
 loop-holds : tie.Need-loop-holds Inv-loop μ-loop
 loop-holds c = turned-starts _ _ _ _ (search needs)
 
 loop-again : tie.Need-loop-again Inv-loop μ-loop
-unfolding entryLess
-loop-again c = let at = c .before .before .before in turned-more _ _ _ _ _ (at .loop .inv) (search needs) refl
+loop-again c = turned-more _ _ _ _ _ (c .before .before .before .before .loop .inv) (search needs) (c .less-entry .ensures)
 
 returns : tie.Need-returns Inv-loop μ-loop
 unfolding lessRow
-returns c = turned-ends _ _ _ _ (c .before .loop .inv) (c .loop-test .left)
+returns c = (refl, turned-ends _ _ _ _ (c .before .loop .inv) (c .loop-test .left))
 
 pub less-row-spec : {M : Type 1} → statement M
 less-row-spec =
@@ -30,13 +30,14 @@ less-row-spec =
     (tie.spec
     Inv-loop
     μ-loop
+    (λ c. search needs)
+    (λ c. search needs)
+    (λ c. search needs)
+    (λ c. search needs)
     loop-holds
     (λ c. search needs)
     (λ c. search needs)
-    (λ c. search needs)
-    (λ c. search needs)
-    (λ c. search needs)
-    (λ c. search needs)
+    (λ c κs. search needs)
     (λ c. search needs)
     (λ c. search needs)
     loop-again
