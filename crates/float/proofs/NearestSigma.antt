@@ -195,7 +195,7 @@ pub sigma16-nearest : (s n : ℕ) → 0 < n → n ≤ planeLimit → s ≤ 65536
 sigma16-nearest zero n N h l = rw (steps-zero n N h) (record { above = omega arith; below = λ k. omega arith })
 sigma16-nearest (suc s) n N h l = sigma16-positive (suc s) n (omega arith) N h l
 
--- ---- the same by a whole root
+-- ---- by a whole root
 pub sigma16-whole : (s n : ℕ) → 0 < n → n ≤ planeLimit → s ≤ 65536 * n → sigma16Of s n ≡ wholeSigma16 s n
 sigma16-whole s n N h l = nearest16-unique s n (sigma16Of s n) (wholeSigma16 s n) (sigma16-nearest s n N h l) (whole-sigma16-nearest s n N)
 

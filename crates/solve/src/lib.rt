@@ -3,7 +3,7 @@ ghost use mathlib.Core.Path.{_≡_};
 ghost use mathlib.Core.List.{[]};
 ghost use Prim.Native.Nat.{_<_, _≤_};
 ghost use lib.Ieee.{nan};
-ghost use Rattle.solve.specs.Elimination.{System, pivotOf, swapped, cleared, unknownOf, substituted};
+ghost use Rattle.solve.specs.Elimination.{System, value, less, pivotOf, swapped, cleared, unknownOf, substituted};
 ghost use Rattle.solve.specs.Answer.{refused, solvedOf};
 ghost use Rattle.solve.specs.Rows.{entryLess, factorOf, lessRow};
 
@@ -66,12 +66,20 @@ fn less_entry(row: &mut [f64; 25], c: usize, f: f64, v: f64)
     row[c] = row[c] - f * v;
 }
 
+// row[i] / pivot[i]
+fn factor(row: &[f64; 25], pivot: &[f64; 25], i: usize) -> f64
+    requires { ⌜ i < 25 ⌝ }
+    ensures { λ r. ⌜ r ≡ factorOf (now (row .entry)) (now (pivot .entry)) i ⌝ }
+{
+    row[i] / pivot[i]
+}
+
 // A row less f × the pivot's row from column i on, for f = row[i] / pivot[i], and f.
 fn less_row(row: &mut [f64; 25], pivot: &[f64; 25], i: usize, order: usize) -> f64
     requires { ⌜ (i < order) × (order ≤ 25) ⌝ }
     ensures { λ r. ⌜ (r ≡ factorOf (now (row .entry)) (now (pivot .entry)) i) × (now (row .exit) ≡ lessRow order i r (now (pivot .entry)) (now (row .entry))) ⌝ }
 {
-    let f = row[i] / pivot[i];
+    let f = factor(row, pivot, i);
     for c in i..order {
         less_entry(row, c, f, pivot[c]);
     }
@@ -97,6 +105,14 @@ fn eliminate_below(
     a
 }
 
+// v less row[j] × x[j]
+fn less_known(row: &[f64; 25], x: &[f64; 25], j: usize, v: f64) -> f64
+    requires { ⌜ j < 25 ⌝ }
+    ensures { λ r. ⌜ r ≡ less v (value (now (row .entry)) j) (value (now (x .entry)) j) ⌝ }
+{
+    v - row[j] * x[j]
+}
+
 // x[i] = (right - Σ row[j] × x[j], over j above i) / row[i].
 fn unknown(row: &[f64; 25], right: f64, x: &[f64; 25], i: usize, order: usize) -> f64
     requires { ⌜ (i < order) × (order ≤ 25) ⌝ }
@@ -104,7 +120,7 @@ fn unknown(row: &[f64; 25], right: f64, x: &[f64; 25], i: usize, order: usize) -
 {
     let mut v = right;
     for j in i + 1..order {
-        v = v - row[j] * x[j];
+        v = less_known(row, x, j, v);
     }
     v / row[i]
 }

@@ -1,5 +1,4 @@
 -- `solve::less_row` meets its contract: a turn takes one entry more. Assumes nothing.
-use mathlib.Core.Path.{refl}
 use Prim.Native.Nat.{_-_}
 use borrow.Author.Needs.{needs}
 use Rattle.laws.proofs.Turns.{Turned, turned-starts, turned-more, turned-ends}
@@ -22,7 +21,7 @@ loop-again c = turned-more _ _ _ _ _ (c .before .before .before .before .loop .i
 
 returns : tie.Need-returns Inv-loop μ-loop
 unfolding lessRow
-returns c = (refl, turned-ends _ _ _ _ (c .before .loop .inv) (c .loop-test .left))
+returns c = (c .before .before .factor .ensures, turned-ends _ _ _ _ (c .before .loop .inv) (c .loop-test .left))
 
 pub less-row-spec : {M : Type 1} → statement M
 less-row-spec =
@@ -30,10 +29,7 @@ less-row-spec =
     (tie.spec
     Inv-loop
     μ-loop
-    (λ c. search needs)
-    (λ c. search needs)
-    (λ c. search needs)
-    (λ c. search needs)
+    (λ c κs. search needs)
     loop-holds
     (λ c. search needs)
     (λ c. search needs)

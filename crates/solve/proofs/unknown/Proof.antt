@@ -1,5 +1,5 @@
 -- `solve::unknown` meets its contract: a turn takes one known value more off. Assumes nothing.
-use mathlib.Core.Path.{refl, ap}
+use mathlib.Core.Path.{ap}
 use Prim.Native.Nat.{_+_, _-_}
 use lib.Ieee.{Float, binary64, div}
 use borrow.Author.Needs.{needs}
@@ -19,8 +19,7 @@ loop-holds c = turned-starts _ _ _ _ (search needs)
 
 loop-again : tie.Need-loop-again Inv-loop μ-loop
 unfolding knownLess
-loop-again c =
-    let at = c .before .before .before in turned-more _ _ _ _ _ (at .loop .inv) (c .before .before .loop-test .taken) refl
+loop-again c = turned-more _ _ _ _ _ (c .before .before .loop .inv) (search needs) (c .less-known .ensures)
 
 returns : tie.Need-returns Inv-loop μ-loop
 unfolding unknownOf
@@ -37,10 +36,7 @@ unknown-spec =
     μ-loop
     (λ c. search needs)
     loop-holds
-    (λ c. search needs)
-    (λ c. search needs)
-    (λ c. search needs)
-    (λ c. search needs)
+    (λ c κs. search needs)
     (λ c. search needs)
     (λ c. search needs)
     loop-again
