@@ -7,7 +7,7 @@ use Rattle.frame.specs.declared.Shape.{Shape}
 use Rattle.frame.specs.Calls.{planeRefusal, denoiseFrameRefusal}
 use Rattle.frame.proofs.Refusal.{refused}
 use Rattle.denoise.specs.Denoise.{denoised}
-use Rattle.denoise.specs.Calls.{planeOutcome, Planes, denoisedFrame, frameOutcome}
+use Rattle.denoise.specs.Calls.{planeOutcome, Frame, denoisedFrame, frameOutcome}
 
 module _ (s d : List ℕ) (w h n : ℕ) (e : n ≡ planeRefusal w h (length s) (length d)) where
   pub plane-refused : (n ≡ 0 → ⊥) → _≡_ {A = ℕ × List ℕ} (n, d) (planeOutcome s d w h)
@@ -18,11 +18,11 @@ module _ (s d : List ℕ) (w h n : ℕ) (e : n ≡ planeRefusal w h (length s) (
   unfolding planeOutcome
   plane-accepted z = rw (← e, z)
 
-module _ (f : Shape) (s d : Planes) (n : ℕ) (e : n ≡ denoiseFrameRefusal f (s .y) (s .cb) (s .cr) (length (d .y)) (length (d .cb)) (length (d .cr))) where
-  pub frame-refused : (n ≡ 0 → ⊥) → _≡_ {A = ℕ × Planes} (n, d) (frameOutcome f s d)
+module _ (f : Shape) (s d : Frame) (n : ℕ) (e : n ≡ denoiseFrameRefusal f (s .y) (s .cb) (s .cr) (length (d .y)) (length (d .cb)) (length (d .cr))) where
+  pub frame-refused : (n ≡ 0 → ⊥) → _≡_ {A = ℕ × Frame} (n, d) (frameOutcome f s d)
   unfolding frameOutcome
   frame-refused z = rw (← e, refused n (denoisedFrame f s) d z)
 
-  pub frame-accepted : n ≡ 0 → _≡_ {A = ℕ × Planes} (0, denoisedFrame f s) (frameOutcome f s d)
+  pub frame-accepted : n ≡ 0 → _≡_ {A = ℕ × Frame} (0, denoisedFrame f s) (frameOutcome f s d)
   unfolding frameOutcome
   frame-accepted z = rw (← e, z)

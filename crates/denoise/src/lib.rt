@@ -18,26 +18,26 @@ pub fn denoise_plane(src: &[u16], dst: &mut [u16], width: usize, height: usize) 
     0
 }
 
-// The same of each plane of a frame, at its own size.
+// Each plane of a frame denoised, at its own size.
 pub fn denoise_frame(
     s: Shape,
     y: &[u16],
     cb: &[u16],
     cr: &[u16],
-    dy: &mut [u16],
-    dcb: &mut [u16],
-    dcr: &mut [u16],
+    to_y: &mut [u16],
+    to_cb: &mut [u16],
+    to_cr: &mut [u16],
 ) -> u32
-    ensures { λ r. ⌜ (r, planes (now (dy .exit)) (now (dcb .exit)) (now (dcr .exit))) ≡ frameOutcome s (planes (now (y .entry)) (now (cb .entry)) (now (cr .entry))) (planes (now (dy .entry)) (now (dcb .entry)) (now (dcr .entry))) ⌝ }
+    ensures { λ r. ⌜ (r, planes (now («to_y» .exit)) (now («to_cb» .exit)) (now («to_cr» .exit))) ≡ frameOutcome s (planes (now (y .entry)) (now (cb .entry)) (now (cr .entry))) (planes (now («to_y» .entry)) (now («to_cb» .entry)) (now («to_cr» .entry))) ⌝ }
 {
-    let answer = frame::denoise_frame_refusal(s, y, cb, cr, dy.len(), dcb.len(), dcr.len());
-    if answer != 0 {
-        return answer;
+    let refusal = frame::denoise_frame_refusal(s, y, cb, cr, to_y.len(), to_cb.len(), to_cr.len());
+    if refusal != 0 {
+        return refusal;
     }
-    let w = s.chroma_width();
-    let h = s.chroma_height();
-    plane::smooth_plane(y, dy, s.width, s.height);
-    plane::smooth_plane(cb, dcb, w, h);
-    plane::smooth_plane(cr, dcr, w, h);
+    let width = s.chroma_width();
+    let height = s.chroma_height();
+    plane::smooth_plane(y, to_y, s.width, s.height);
+    plane::smooth_plane(cb, to_cb, width, height);
+    plane::smooth_plane(cr, to_cr, width, height);
     0
 }

@@ -1,9 +1,9 @@
 // A row at a time: the weights 1 2 1 down the columns, then along the line of the sums.
 ghost use mathlib.Core.Path.{_≡_};
-ghost use Prim.Native.Nat.{ℕ, _+_, _*_, _^_, _<_, _≤_};
-ghost use lib.ListN.{length, getD};
+ghost use Prim.Native.Nat.{_+_, _^_, _<_};
+ghost use lib.ListN.{length};
 ghost use Rattle.laws.specs.Table.{tabulate};
-ghost use Rattle.denoise.specs.Line.{weigh, mean, columnSum, columnSums, lineMean};
+ghost use Rattle.denoise.specs.Line.{weigh, mean, columnSum, columnSums, SumsLow, lineMean};
 
 fn wide(x: u16) -> u32
     ensures { λ r. ⌜ (r ≡ x) × (r < 2 ^ 16) ⌝ }
@@ -48,12 +48,20 @@ pub fn column_sums(up: &[u16], mid: &[u16], down: &[u16], line: &mut [u32])
     line[n + 1] = column_sum(up, mid, down, n - 1);
 }
 
-// (a + 2·b + c + 8) / 16 of each three neighbours of a line
+// (a + 2·b + c + 8) / 16 of three neighbours of a line, the first of them at c
+fn mean_at(line: &[u32], c: usize) -> u16
+    requires { ⌜ (c + 2 < length (now line)) × SumsLow (now line) ⌝ }
+    ensures { λ r. ⌜ r ≡ lineMean (now (line .entry)) c ⌝ }
+{
+    mean_of(weigh_three(line[c], line[c + 1], line[c + 2]))
+}
+
+// The means of each three neighbours of a line
 pub fn line_means(line: &[u32], out: &mut [u16])
-    requires { ⌜ (length (now line) ≡ length (now out) + 2) × ((i : ℕ) → i < length (now line) → getD (now line) i 0 ≤ 4 * 65535) ⌝ }
+    requires { ⌜ (length (now line) ≡ length (now out) + 2) × SumsLow (now line) ⌝ }
     ensures { λ _. ⌜ now (out .exit) ≡ tabulate (length (now (out .entry))) (lineMean (now (line .entry))) ⌝ }
 {
     for c in 0..out.len() {
-        out[c] = mean_of(weigh_three(line[c], line[c + 1], line[c + 2]));
+        out[c] = mean_at(line, c);
     }
 }

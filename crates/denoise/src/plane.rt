@@ -1,7 +1,9 @@
 // A plane, row by row.
+use frame::SIDE_LIMIT;
 ghost use mathlib.Core.Path.{_≡_};
 ghost use Prim.Native.Nat.{_+_, _*_, _<_, _≤_};
 ghost use lib.ListN.{length};
+ghost use Rattle.laws.specs.Limits.{sideLimit};
 ghost use Rattle.laws.specs.Table.{tabulate};
 ghost use Rattle.denoise.specs.Line.{rowOf};
 ghost use Rattle.denoise.specs.Denoise.{before, after, smoothed, denoised};
@@ -62,14 +64,16 @@ fn smooth_rows(src: &[u16], width: usize, height: usize, line: &mut [u32], dst: 
     }
 }
 
-// A line for a row of 4,096 columns, with one more at each end.
-fn blank_line() -> [u32; 4098] {
-    [0u32; 4098]
+// A line for the widest row, with one column more at each end.
+const LINE: usize = SIDE_LIMIT + 2;
+
+fn blank_line() -> [u32; LINE] {
+    [0; LINE]
 }
 
 // The denoised plane.
 pub fn smooth_plane(src: &[u16], dst: &mut [u16], width: usize, height: usize)
-    requires { ⌜ (width ≤ 4096) × (length (now src) ≡ width * height) × (length (now dst) ≡ width * height) ⌝ }
+    requires { ⌜ (width ≤ sideLimit) × (length (now src) ≡ width * height) × (length (now dst) ≡ width * height) ⌝ }
     ensures { λ _. ⌜ now (dst .exit) ≡ denoised (now (src .entry)) width height ⌝ }
 {
     if width == 0 {

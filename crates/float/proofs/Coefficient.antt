@@ -12,9 +12,10 @@ use lib.Dec.{T, lit<, lit≤}
 use lib.Ieee.{Float, nan, inf, fin, binary64, up, down, mul, fits, ofBits, toSigned}
 use lib.Ieee.Fits.{down-pos, mul-fits}
 use borrow.Author.Tests.{lt-ltb, le-ltb}
+use Rattle.laws.specs.Constants.{sixtyFour}
 use Rattle.float.specs.Clamp.{clampOf}
 use Rattle.float.specs.Round.{halfUp, roundHalfAway}
-use Rattle.float.specs.Steps.{sixtyfour, quantAr}
+use Rattle.float.specs.Steps.{quantAr}
 use Rattle.float.specs.Coefficient.{times64, held, coefficient, Written}
 use Rattle.float.proofs.Units.{fit}
 use Rattle.float.proofs.Times.{times-exact, times-too-large}
@@ -155,7 +156,7 @@ hold-written (negsuc n) = subst Written (sym (hold-neg (suc n))) (ends-written t
 
 pub quant-written : (c : Float) → Written (quantAr c)
 unfolding quantAr
-quant-written c = hold-written (toSigned 31 (roundHalfAway (mul binary64 c sixtyfour)))
+quant-written c = hold-written (toSigned 31 (roundHalfAway (mul binary64 c sixtyFour)))
 
 pub coefficient-written : (c : Float) → Written (coefficient c)
 unfolding coefficient times64 held

@@ -95,7 +95,7 @@ module _ (x : Float) (p : T (positive x)) (a l : ℕ) (L : l ≤ 1074) where
   squares = simp (mul-assoc, mul-comm, mul-left-comm)
 
   under : num x * (2 ^ 1074 * 2 ^ 1074) ≡ num x * (2 ^ l * 2 ^ l) * (w * w)
-  under = ap (λ (u : ℕ). num x * (u * u)) unit ∙ simp (mul-assoc, mul-comm, mul-left-comm)
+  under = ap (λ (u : ℕ). num x * (u * u)) unit ∙ simp (mul-assoc, mul-left-comm)
 
   sides : a * (2 * 2 ^ 1074) ≡ 2 * (a * w) * 2 ^ l
   sides = ap (λ (u : ℕ). a * (2 * u)) unit ∙ simp (mul-assoc, mul-comm, mul-left-comm)

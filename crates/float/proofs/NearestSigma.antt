@@ -1,4 +1,4 @@
--- By the Rust's rounded steps sigma16 is the whole number nearest to 16 × root(s / n), halves up, for counts to 2 ^ 24 and squares to 65536 each (`sigma16-nearest`). So it is also the one by a whole root (`sigma16-whole`).
+-- By the Rust's rounded steps sigma16 is the whole number nearest to 16 × root(s / n), halves up, for counts up to a plane's samples, 2 ^ 24, and squares to 65536 each (`sigma16-nearest`). So it is also the one by a whole root (`sigma16-whole`).
 -- y is the rounded quotient, z its rounded root. 16 × z is exact, and k is the whole number nearest to it.
 -- * Where s / n is j² / 1024 or more, for an odd j, y is too, and z is j / 32 or more.
 -- * Where s / n is less, it is less by 2 ^ -34 at least: y is D / 2 ^ 34 at most, D = j² × 2 ^ 24 − 1, and z is G / 2 ^ 43 at most, G = j × 2 ^ 38 − 1, so below j / 32.
@@ -21,6 +21,7 @@ use lib.Ieee.Order.{round-mono}
 use lib.Ieee.Scale.{round-same}
 use lib.Ieee.Positive.{num, den, den-pos, positive}
 use borrow.Author.Tests.{ne-eqb}
+use Rattle.laws.specs.Limits.{planeLimit}
 use Rattle.float.specs.Round.{halfUp, roundHalfAway, NearestWhole}
 use Rattle.float.specs.Root.{root}
 use Rattle.float.specs.Steps.{deviation16, sigma16Of}
@@ -36,8 +37,8 @@ use Rattle.float.proofs.root.Bits.{root-fits}
 use Rattle.float.proofs.root.Normal.{root-of-number}
 
 -- ---- the last steps: 16 × z, rounded, as a whole number
-at-most-4096 : (v d k : ℕ) → 0 < d → v ≤ 256 * d → NearestWhole (v * 16) d k → k ≤ 4096
-at-most-4096 v d k D l p =
+at-most : (v d k : ℕ) → 0 < d → v ≤ 256 * d → NearestWhole (v * 16) d k → k ≤ 256 * 16
+at-most v d k D l p =
     elim (eq-zero-or-pos k) [
       | inl e ↦ omega arith
       | inr h ↦ let a : 2 * k - 1 ≤ 8192 = le-of-mul-le-mul-right (le-trans (p .below h) (twice v d l)) D in omega arith
@@ -59,14 +60,14 @@ last-steps (fin false m e) t p l =
     let small : v * 16 < 4097 * d = omega (arith, down-pos e) in
     let value = times-exact 4 false m e (fit false m e t) (lt-of-lt-of-le small (mul-le-mul-right d (lit≤ tt))) in
     let near = round-nearest w false (v * 16) d (mul-fits binary64 (fin false m e) (fin false 1 (pos 4))) (down-pos e) value in
-    unsigned-cut 64 (roundHalfAway w) k 1 (lit< tt) (near .0) ∙ held k (at-most-4096 v d k (down-pos e) l (near .1))
+    unsigned-cut 64 (roundHalfAway w) k 1 (lit< tt) (near .0) ∙ held k (at-most v d k (down-pos e) l (near .1))
   where
-    held : (k : ℕ) → k ≤ 4096 → min (k / 1) (2 ^ 64 - 1) ≡ k
+    held : (k : ℕ) → k ≤ 256 * 16 → min (k / 1) (2 ^ 64 - 1) ≡ k
     held k l = omega arith
 
 -- ---- plain numbers
 -- s / n below j² / 1024, for J = j²
-gap-y : (s n J D : ℕ) → n ≤ 2 ^ 24 → suc D ≡ J * 2 ^ 24 → 1024 * s < J * n → s * 2 ^ 34 ≤ D * n
+gap-y : (s n J D : ℕ) → n ≤ planeLimit → suc D ≡ J * 2 ^ 24 → 1024 * s < J * n → s * 2 ^ 34 ≤ D * n
 gap-y s n J D N d h =
     let a : D * n + n ≡ J * n * 2 ^ 24 = sym (suc-mul D n) ∙ ap (λ (x : ℕ). x * n) d ∙ mul-right-comm J (2 ^ 24) n in
     omega arith
@@ -90,7 +91,7 @@ gap-last v d j G D g h =
     omega arith
 
 -- ---- the steps
-module _ (s n : ℕ) (S : 0 < s) (N : 0 < n) (n-small : n ≤ 2 ^ 24) (s-small : s ≤ 65536 * n) where
+module _ (s n : ℕ) (S : 0 < s) (N : 0 < n) (n-small : n ≤ planeLimit) (s-small : s ≤ 65536 * n) where
   fraction : (a l : ℕ) → 0 < a → a < 2 ^ 53 → l ≤ 1074 → Fraction a l
   fraction a l p f d = record { some = p; few = f; deep = d }
 
@@ -142,8 +143,8 @@ module _ (s n : ℕ) (S : 0 < s) (N : 0 < n) (n-small : n ≤ 2 ^ 24) (s-small :
   unfolding k
   k-near = half-nearest (num z * 16) (den z) (den-pos z)
 
-  k-small : k ≤ 4096
-  k-small = at-most-4096 (num z) (den z) k (den-pos z) z-small k-near
+  k-small : k ≤ 256 * 16
+  k-small = at-most (num z) (den z) k (den-pos z) z-small k-near
 
   above : 1024 * s < (2 * k + 1) * (2 * k + 1) * n
   above = lt-of-not-le (λ (h : (2 * k + 1) * (2 * k + 1) * n ≤ 1024 * s). not-le-of-lt (k-near .above) (reach (2 * k + 1) (omega (arith, k-small)) (omega arith) h))
@@ -184,18 +185,18 @@ module _ (s n : ℕ) (S : 0 < s) (N : 0 < n) (n-small : n ≤ 2 ^ 24) (s-small :
   sigma16-positive = rw steps (record { above = above; below = below })
 
 -- ---- no square at all
-steps-zero : (n : ℕ) → 0 < n → n ≤ 2 ^ 24 → sigma16Of 0 n ≡ 0
+steps-zero : (n : ℕ) → 0 < n → n ≤ planeLimit → sigma16Of 0 n ≡ 0
 unfolding sigma16Of deviation16 ofBits roundHalfAway halfUp toUnsigned mul root round
 steps-zero n N h =
     rw (ne-eqb n 0 (λ e. omega arith))
     (ap (λ (x : Float). toUnsigned 64 (roundHalfAway (mul binary64 (root x) (fin false 1 (pos 4))))) (quotient 0 n N zero-le (omega arith) ∙ round-same binary64 false 0 n 0 1 N (lit< tt) (sym (zero-mul n))))
 
-pub sigma16-nearest : (s n : ℕ) → 0 < n → n ≤ 2 ^ 24 → s ≤ 65536 * n → Nearest16 s n (sigma16Of s n)
+pub sigma16-nearest : (s n : ℕ) → 0 < n → n ≤ planeLimit → s ≤ 65536 * n → Nearest16 s n (sigma16Of s n)
 sigma16-nearest zero n N h l = rw (steps-zero n N h) (record { above = omega arith; below = λ k. omega arith })
 sigma16-nearest (suc s) n N h l = sigma16-positive (suc s) n (omega arith) N h l
 
--- ---- the same by a whole root
-pub sigma16-whole : (s n : ℕ) → 0 < n → n ≤ 2 ^ 24 → s ≤ 65536 * n → sigma16Of s n ≡ wholeSigma16 s n
+-- ---- by a whole root
+pub sigma16-whole : (s n : ℕ) → 0 < n → n ≤ planeLimit → s ≤ 65536 * n → sigma16Of s n ≡ wholeSigma16 s n
 sigma16-whole s n N h l = nearest16-unique s n (sigma16Of s n) (wholeSigma16 s n) (sigma16-nearest s n N h l) (whole-sigma16-nearest s n N)
 
 -- ---- each d from −256 to 255
@@ -208,5 +209,5 @@ unfolding sumOfSquares
 small-sum [] t = zero-le
 small-sum (d ∷ ds) t = omega (arith, small-square d (t .0) (t .1), small-sum ds (t .2))
 
-pub sigma16-of-noise : (ds : List ℤ) → 0 < length ds → length ds ≤ 2 ^ 24 → EachSmall ds → Nearest16 (sumOfSquares ds) (length ds) (sigma16Of (sumOfSquares ds) (length ds))
+pub sigma16-of-noise : (ds : List ℤ) → 0 < length ds → length ds ≤ planeLimit → EachSmall ds → Nearest16 (sumOfSquares ds) (length ds) (sigma16Of (sumOfSquares ds) (length ds))
 sigma16-of-noise ds N h t = sigma16-nearest (sumOfSquares ds) (length ds) N h (small-sum ds t)

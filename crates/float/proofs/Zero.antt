@@ -5,13 +5,11 @@ use Prim.Native.Nat.{ℕ, zero, suc, _+_, _*_, _<_}
 use native.Mathlib.Nat.{zero-mul, mul-pos, zero-lt-suc}
 use native.Mathlib.Omega.{arith}
 use lib.Dec.{ltb, eqb, eqb·suc-zero}
-use lib.Ieee.{Float, nan, inf, fin, binary64, up, down, lt, eq, ofBits}
+use lib.Ieee.{Float, nan, inf, fin, up, down, lt, eq, ofBits}
 use lib.Ieee.Fits.{up-pos}
 use lib.Ieee.Positive.{above}
 use borrow.Author.Tests.{lt-ltb, le-ltb, ne-eqb}
-
-abbrev pub zeroF : Float
-zeroF = ofBits binary64 0
+use Rattle.laws.specs.Scaled.{plusZero}
 
 abbrev pub under : Float → Bool
 under nan = false
@@ -31,7 +29,7 @@ some (suc m) u z U e =
     let p : 0 < suc m * u = mul-pos (zero-lt-suc m) U in
     lt-ltb z (suc m * u * 1) (omega arith) ∙ sym (lt-ltb 0 (suc m) (zero-lt-suc m))
 
-pub lt-zero : (x : Float) → lt x zeroF ≡ under x
+pub lt-zero : (x : Float) → lt x plusZero ≡ under x
 unfolding lt ofBits
 lt-zero nan = refl
 lt-zero (inf s) = refl
@@ -40,14 +38,14 @@ lt-zero (fin true m e) =
     ap (ltb 0) h ∙ some m (up e) 0 (up-pos e) refl
 lt-zero (fin false m e) = le-ltb (m * up e * 1) (0 * down e) (omega (arith, zero-mul (down e)))
 
-pub zero-lt : (x : Float) → lt zeroF x ≡ above x
+pub zero-lt : (x : Float) → lt plusZero x ≡ above x
 unfolding lt ofBits
 zero-lt nan = refl
 zero-lt (inf s) = refl
 zero-lt (fin true m e) = refl
 zero-lt (fin false m e) = some m (up e) (0 * down e) (up-pos e) (zero-mul (down e))
 
-pub eq-zero : (x : Float) → eq x zeroF ≡ null x
+pub eq-zero : (x : Float) → eq x plusZero ≡ null x
 unfolding eq ofBits
 eq-zero nan = refl
 eq-zero (inf s) = refl

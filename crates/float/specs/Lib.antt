@@ -1,3 +1,4 @@
+-- what the results are, and what is said of them: the Rust's steps, the words of the scope, whole numbers
 pub mod Magnitude
 pub mod Clamp
 pub mod Round
@@ -5,3 +6,5 @@ pub mod Root
 pub mod Steps
 pub mod Coefficient
 pub mod Sigma
+-- how the work is divided: the contracts of the parts
+pub mod Digits

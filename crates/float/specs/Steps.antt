@@ -3,21 +3,15 @@ use Prim.Native.Nat.{ℕ}
 use mathlib.Core.Bool.{cond}
 use lib.IntN.{ℤ, pos, negℤ}
 use lib.Dec.{eqb}
-use lib.Ieee.{Float, binary64, mul, div, ofBits, ofInt, toSigned, toUnsigned}
+use lib.Ieee.{Float, binary64, mul, div, ofInt, toSigned, toUnsigned}
+use Rattle.laws.specs.Constants.{sixteen, sixtyFour}
 use Rattle.float.specs.Clamp.{clampOf}
 use Rattle.float.specs.Round.{roundHalfAway}
 use Rattle.float.specs.Root.{root}
 
--- `64.0` and `16.0`
-abbrev pub sixtyfour : Float
-sixtyfour = ofBits binary64 0x4050_0000_0000_0000
-
-abbrev pub sixteen : Float
-sixteen = ofBits binary64 0x4030_0000_0000_0000
-
 unfoldable pub quantAr : Float → ℤ
 unfolding clampOf roundHalfAway
-quantAr c = clampOf (toSigned 31 (roundHalfAway (mul binary64 c sixtyfour))) (negℤ (pos 128)) (pos 127)
+quantAr c = clampOf (toSigned 31 (roundHalfAway (mul binary64 c sixtyFour))) (negℤ (pos 128)) (pos 127)
 
 -- `(sq as f64 / count as f64).sqrt() * 16.0`
 unfoldable pub deviation16 : ℕ → ℕ → Float

@@ -1,11 +1,17 @@
 // The correctly rounded root of an f64, digit by digit.
 ghost use mathlib.Core.Path.{_≡_};
 ghost use mathlib.Core.Bool.{false};
-ghost use Prim.Native.Nat.{_-_, _*_, _^_, _<_, _≤_};
+ghost use Prim.Native.Nat.{_-_, _*_, _^_, _<_};
 ghost use lib.Dec.{T};
 ghost use lib.Ieee.Exact.{HasValue};
 ghost use lib.Ieee.Positive.{positive};
 ghost use Rattle.float.specs.Root.{wholeRoot, root};
+ghost use Rattle.float.specs.Digits.{FullDigits, EvenDigits};
+
+// The binary digits of an f64, and 2^52, which has that many.
+const DIGITS: u64 = 53;
+
+const LEAD: u64 = 4503599627370496;
 
 // A root cut to a whole number, and the rest, what the number under the root has above its square.
 struct Digits {
@@ -19,27 +25,25 @@ fn root_digits(m: u64) -> Digits
     requires { ⌜ m < 2 ^ 54 ⌝ }
     ensures { λ r. ⌜ (r .root ≡ wholeRoot (m * 2 ^ 52)) × (r .rest ≡ m * 2 ^ 52 - r .root * r .root) ⌝ }
 {
-    let mut q = 0u64;
-    let mut rest = 0u64;
+    let mut q = 0;
+    let mut rest = 0;
     let mut left = m;
-    let mut i = 0u64;
-    while i < 53 {
+    for i in 0..DIGITS {
         if rest + left == 0 {
-            let filled = q << (53 - i);
+            let filled = q << (DIGITS - i);
             return Digits {
                 root: filled,
                 rest: 0,
             };
         }
-        rest = rest * 4 + left / 4503599627370496;
-        left = left % 4503599627370496 * 4;
+        rest = rest * 4 + left / LEAD;
+        left = left % LEAD * 4;
         let t = q * 4 + 1;
         q = q * 2;
         if t <= rest {
             rest = rest - t;
             q = q + 1;
         }
-        i = i + 1;
     }
     Digits { root: q, rest }
 }
@@ -53,11 +57,11 @@ struct Scaled {
 // m * 2^1074 with 53 digits before the power of two.
 fn leading(m: u64) -> Scaled
     requires { ⌜ (0 < m) × (m < 2 ^ 52) ⌝ }
-    ensures { λ r. ⌜ (r .m * 2 ^ r .s ≡ m * 2 ^ 1074) × (2 ^ 52 ≤ r .m) × (r .m < 2 ^ 53) × (1022 ≤ r .s) × (r .s < 3120) ⌝ }
+    ensures { λ r. ⌜ (r .m * 2 ^ r .s ≡ m * 2 ^ 1074) × FullDigits (r .m) (r .s) ⌝ }
 {
     let mut n = m;
-    let mut h = 0u64;
-    while n < 4503599627370496 {
+    let mut h = 0;
+    while n < LEAD {
         n = n * 2;
         h = h + 1;
     }
@@ -67,24 +71,24 @@ fn leading(m: u64) -> Scaled
 // x * 2^2148 with 53 digits before the power of two, from the fields of its bit pattern.
 fn unpacked(x: f64) -> Scaled
     requires { ⌜ T (positive x) ⌝ }
-    ensures { λ r. ⌜ HasValue x false (r .m * 2 ^ r .s) (2 ^ 1074 * 2 ^ 1074) × (2 ^ 52 ≤ r .m) × (r .m < 2 ^ 53) × (1022 ≤ r .s) × (r .s < 3120) ⌝ }
+    ensures { λ r. ⌜ HasValue x false (r .m * 2 ^ r .s) (2 ^ 1074 * 2 ^ 1074) × FullDigits (r .m) (r .s) ⌝ }
 {
     let b = f64::to_bits(x);
-    let e = b / 4503599627370496;
-    let t = b % 4503599627370496;
+    let e = b / LEAD;
+    let t = b % LEAD;
     if e == 0 {
         return leading(t);
     }
     Scaled {
-        m: t + 4503599627370496,
+        m: t + LEAD,
         s: e + 1073,
     }
 }
 
 // m * 2^s as a number times 4^s.
 fn even(m: u64, s: u64) -> Scaled
-    requires { ⌜ (2 ^ 52 ≤ m) × (m < 2 ^ 53) × (1022 ≤ s) × (s < 3120) ⌝ }
-    ensures { λ r. ⌜ (r .m * (2 ^ r .s * 2 ^ r .s) ≡ m * 2 ^ s) × (2 ^ 52 ≤ r .m) × (r .m < 2 ^ 54 - 1) × (511 ≤ r .s) × (r .s < 1560) ⌝ }
+    requires { ⌜ FullDigits m s ⌝ }
+    ensures { λ r. ⌜ (r .m * (2 ^ r .s * 2 ^ r .s) ≡ m * 2 ^ s) × EvenDigits (r .m) (r .s) ⌝ }
 {
     if s % 2 == 0 {
         Scaled { m, s: s / 2 }
@@ -101,7 +105,7 @@ fn positive_root(x: f64) -> f64
     let a = unpacked(x);
     let b = even(a.m, a.s);
     let d = root_digits(b.m);
-    let k = (b.s - 26) * 4503599627370496;
+    let k = (b.s - 26) * LEAD;
     let q = d.root;
     let rest = d.rest;
     if q < rest {

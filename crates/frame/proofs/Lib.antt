@@ -7,3 +7,4 @@ pub mod Samples
 pub mod Gathered
 pub mod Facts
 pub mod Accepted
+pub mod Known

@@ -18,3 +18,4 @@ pub mod FloatSums
 pub mod Law
 pub mod LoopLaw
 pub mod Limits
+pub mod Turns

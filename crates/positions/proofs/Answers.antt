@@ -11,7 +11,7 @@ use lib.Seq.{set-at}
 use Rattle.laws.specs.Table.{tabulate}
 use Rattle.laws.proofs.Table.{length-tabulate, map-tabulate}
 use Rattle.positions.specs.Counts.{neighbours}
-use Rattle.positions.specs.Positions.{refusalOf, positionsOf, refused}
+use Rattle.positions.specs.Positions.{positionsOf, refused}
 use Rattle.positions.proofs.Places.{offsetAt}
 use Rattle.positions.proofs.Steps.{positions-are}
 
@@ -47,12 +47,12 @@ filling-turn {lag} {i} dr dc h l F er ec =
 
 -- ---- the answer
 pub refused-is : (lag : ℕ) → 3 < lag → positionsOf lag ≡ refused 7
-unfolding positionsOf refusalOf
+unfolding positionsOf
 refused-is lag h = rw (lt-leb lag 3 h)
 
 accepted-is : (lag : ℕ) → lag ≤ 3
     → positionsOf lag ≡ record { refusal = 0; count = neighbours lag; rows = filled (rowOf lag) (neighbours lag); columns = filled (columnOf lag) (neighbours lag) }
-unfolding positionsOf refusalOf
+unfolding positionsOf
 accepted-is lag h = rw (le-leb lag 3 h, positions-are lag) (simp (map-tabulate, length-tabulate))
 
 pub filling-ends : {lag i : ℕ} {rows columns : List ℤ} → lag ≤ 3 → neighbours lag ≤ i → Filling lag i rows columns

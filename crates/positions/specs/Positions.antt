@@ -6,7 +6,8 @@ use lib.Dec.{eqb}
 use lib.IntN.{ℤ, pos, natAbs, _-ℤ_}
 use lib.ListN.{length, replicate}
 use Rattle.laws.specs.Loop.{loop}
-use Rattle.frame.specs.Questions.{firstNo, accepted, lagKnown}
+use Rattle.frame.specs.Questions.{accepted}
+use Rattle.frame.specs.Calls.{lagRefusal}
 use Rattle.positions.specs.declared.Positions.{Positions}
 
 -- ---- the Rust's steps
@@ -41,10 +42,6 @@ positions lag = loop 0 (lag + 1) (λ k. row lag (pos k -ℤ pos lag)) []
 
 -- ---- the call
 
--- "Is a fit's lag at most 3? No: 7."
-unfoldable pub refusalOf : ℕ → ℕ
-refusalOf lag = firstNo (lagKnown lag ∷ [])
-
 -- these, and zeros up to 24
 abbrev pub padded : List ℤ → List ℤ
 padded zs = zs ++ replicate (24 - length zs) (pos 0)
@@ -59,4 +56,4 @@ abbrev pub refused : ℕ → Positions
 refused n = record { refusal = n; count = 0; rows = replicate 24 (pos 0); columns = replicate 24 (pos 0) }
 
 unfoldable pub positionsOf : ℕ → Positions
-positionsOf lag = let n = refusalOf lag in accepted n (listed (positions lag)) (refused n)
+positionsOf lag = let n = lagRefusal lag in accepted n (listed (positions lag)) (refused n)

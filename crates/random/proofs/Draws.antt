@@ -6,16 +6,16 @@ use native.Mathlib.Nat.{mod-one}
 use borrow.Author.Tests.{le-leb, lt-leb}
 use lib.Pow.{shr-mod}
 use Rattle.random.specs.Text.{moved, answer}
-use Rattle.random.specs.Register.{step}
+use Rattle.random.specs.Register.{refused, drawn, step}
 use Rattle.random.specs.declared.register.RandomRegister.{RandomRegister}
-use Rattle.random.specs.declared.register.Draw.the-variants.{Refused, Value}
+use Rattle.random.specs.declared.register.Draw.the-variants.{Value}
 use Rattle.random.proofs.Moves.{moved-lt}
 
-pub step-refused : (g : RandomRegister) (bits : ℕ) → 16 < bits → step g bits ≡ record { draw = Refused 9; register = g }
+pub step-refused : (g : RandomRegister) (bits : ℕ) → 16 < bits → step g bits ≡ refused 9 g
 step-refused g bits h = rw (lt-leb bits 16 h)
 
 pub step-accepted : (g : RandomRegister) (bits : ℕ) → bits ≤ 16
-    → step g bits ≡ record { draw = Value (answer (g .state) bits); register = record { state = moved (g .state) } }
+    → step g bits ≡ drawn g bits
 step-accepted g bits h = rw (le-leb bits 16 h)
 
 -- "0 bits gives 0 and still steps the state."

@@ -1,26 +1,20 @@
 -- "Is the register asked for at most 16 bits? No: 9." "A refused call returns its number, with every other field of the answer zero; destinations, the register and any held state remain."
-use mathlib.Core.List.{[], _∷_}
-use Prim.Native.Nat.{ℕ, zero, suc}
-use Rattle.frame.specs.Questions.{firstNo, accepted, bitsKnown}
+use Prim.Native.Nat.{ℕ}
+use Rattle.frame.specs.Questions.{accepted}
+use Rattle.frame.specs.Calls.{bitsRefusal}
 use Rattle.random.specs.Text as text
 use Rattle.random.specs.declared.register.RandomRegister.{RandomRegister}
 use Rattle.random.specs.declared.register.Stepped.{Stepped}
-use Rattle.random.specs.declared.register.Draw.{Draw}
 use Rattle.random.specs.declared.register.Draw.the-variants.{Refused, Value}
 
--- the number that a call for this many bits is refused with; 0 where it is accepted
-abbrev pub refusal : ℕ → ℕ
-refusal bits = firstNo (bitsKnown bits ∷ [])
+-- a refused call's: the number, and the register as it was
+abbrev pub refused : ℕ → RandomRegister → Stepped
+refused n g = record { draw = Refused n; register = g }
 
--- the answer for each case of that number: at 0 the value, else the refusal with it
-abbrev pub answered : ℕ → ℕ → Draw
-answered zero value = Value value
-answered (suc n) value = Refused (suc n)
+-- an accepted call's: the bits drawn, and the register as it moved
+abbrev pub drawn : RandomRegister → ℕ → Stepped
+drawn g bits = record { draw = Value (text.answer (g .state) bits); register = record { state = text.moved (g .state) } }
 
 -- the draw, and the register after it
 abbrev pub step : RandomRegister → ℕ → Stepped
-step g bits =
-    record {
-      draw = answered (refusal bits) (text.answer (g .state) bits);
-      register = record { state = accepted (refusal bits) (text.moved (g .state)) (g .state) };
-    }
+step g bits = accepted (bitsRefusal bits) (drawn g bits) (refused (bitsRefusal bits) g)

@@ -42,13 +42,14 @@ impl RandomRegister {
         Self { state: seed }
     }
 
-    // The top bits asked for of the register after a step: r >> 1, with the taps' xor at bit 15. Above 16 bits: 9, and the register as it was.
+    // The top bits asked for of the register after a step: r >> 1, with the taps' xor at bit 15. Refused, the register stays as it was.
     pub fn stepped(self, bits: u32) -> Stepped
         ensures { λ r. ⌜ r ≡ step self bits ⌝ }
     {
-        if Self::WIDTH < bits {
+        let refusal = frame::bits_refusal(bits);
+        if refusal != 0 {
             return Stepped {
-                draw: Draw::Refused(9),
+                draw: Draw::Refused(refusal),
                 register: self,
             };
         }
@@ -59,7 +60,7 @@ impl RandomRegister {
             ^ (r >> Self::TAP_D))
             & 1;
         let moved = (r >> 1) | (bit << Self::ENTRY);
-        let top = (moved >> (Self::WIDTH - bits)) & ((1u32 << bits) - 1);
+        let top = (moved >> (Self::WIDTH - bits)) & ((1 << bits) - 1);
         let state = moved as u16;
         Stepped {
             draw: Draw::Value(top),

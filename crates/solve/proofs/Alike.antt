@@ -1,18 +1,13 @@
 -- Two lists whose first p entries stand in a relation: a store and an exchange keep that. Assumes nothing.
 use mathlib.Core.Path.{_≡_}
 use mathlib.Core.List.{List}
-use Prim.Native.Nat.{ℕ, _≤_, _<_}
+use Prim.Native.Nat.{ℕ, _<_}
 use native.Mathlib.Decide.{ℕ-discrete}
 use native.Mathlib.Omega.{arith}
-use lib.ListN.{length, getD, set, length-set}
+use lib.ListN.{getD, set, length-set}
 use lib.Seq.{getD-set-same, getD-set-other}
 use Rattle.solve.specs.Elimination.{swapped}
-
--- both lists have p entries or more, and the first p stand in R
-pub record Alike {A : Type 0} (R : A → A → Type 0) (d : A) (p : ℕ) (xs ys : List A) : Type 0 where
-  pub long : p ≤ length xs
-  pub long′ : p ≤ length ys
-  pub each : (i : ℕ) → i < p → R (getD xs i d) (getD ys i d)
+use Rattle.solve.specs.Words.{Alike}
 
 -- a store, and an exchange
 module _ {A : Type 0} (R : A → A → Type 0) (d : A) (p : ℕ) where

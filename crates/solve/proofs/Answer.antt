@@ -1,41 +1,32 @@
 -- The answer from where the call ends: refused, at a small pivot, or with every column cleared. Assumes nothing.
 use mathlib.Core.Path.{_≡_, refl, sym, ap, _∙_}
-use mathlib.Core.Bool.{true, and-eq-true-iff}
-use mathlib.Core.List.{[], _∷_}
-use Prim.Native.Nat.{ℕ, _≤_}
-use native.Mathlib.Omega.{arith}
-use lib.Dec.{leb}
-use borrow.Author.Tests.{leb-true}
+use mathlib.Core.Bool.{true}
+use Prim.Native.Nat.{ℕ}
 use Rattle.laws.specs.Loop.{loop}
 use Rattle.laws.proofs.Loop.{loop-fixed}
-use Rattle.frame.specs.Questions.{orderKnown}
-use Rattle.frame.proofs.Refusal.{refused, granted, passed}
+use Rattle.laws.proofs.Turns.{Turned}
+use Rattle.frame.specs.Calls.{orderRefusal}
+use Rattle.frame.proofs.Refusal as refusal
 use Rattle.solve.specs.declared.Solved.{Solved}
 use Rattle.solve.specs.Elimination.{Matrix, Row, going, none, column, eliminated, substituted}
-use Rattle.solve.specs.Answer.{refusalOf, unsolvedOf, answerOf, solvedOf}
+use Rattle.solve.specs.Answer.{refused, answerOf, solvedOf}
 use Rattle.solve.proofs.Column.{none-stays}
 
--- an accepted order
-pub order-fits : (order r : ℕ) → r ≡ refusalOf order → r ≡ 0 → order ≤ 25
-unfolding refusalOf
-order-fits order r e z =
-    leb-true order 25 (and-eq-true-iff (leb 1 order) (leb order 25) .0 (passed (orderKnown order ∷ []) refl (sym e ∙ z) .0) .1)
-
-module _ (a : Matrix) (b : Row) (order r : ℕ) (e : r ≡ refusalOf order) where
-  pub refused-is : (r ≡ 0 → ⊥) → unsolvedOf r ≡ solvedOf a b order
+module _ (a : Matrix) (b : Row) (order r : ℕ) (e : r ≡ orderRefusal order) where
+  pub refused-is : (r ≡ 0 → ⊥) → refused r ≡ solvedOf a b order
   unfolding solvedOf
-  refused-is h = rw (← e) (sym (refused r _ _ h))
+  refused-is h = rw (← e) (sym (refusal.refused r _ _ h))
 
   module _ (z : r ≡ 0) where
     pub accepted-is : answerOf order (eliminated order (record { matrix = a; right = b })) ≡ solvedOf a b order
     unfolding solvedOf
-    accepted-is = sym (granted (refusalOf order) _ _ (sym e ∙ z))
+    accepted-is = sym (refusal.granted (orderRefusal order) _ _ (sym e ∙ z))
 
     -- a pivot was too small before column k
-    pub none-is : (k : ℕ) → k ≤ order → none ≡ loop 0 k (column order) (going (record { matrix = a; right = b })) → unsolvedOf 0 ≡ solvedOf a b order
+    pub none-is : (k : ℕ) → Turned (column order) 0 order (going (record { matrix = a; right = b })) k none → refused 0 ≡ solvedOf a b order
     unfolding eliminated answerOf
-    none-is k h l =
-        ap (answerOf order) (sym (loop-fixed 0 k order (column order) _ none (none-stays order) (omega arith) h (sym l))) ∙ accepted-is
+    none-is k h =
+        ap (answerOf order) (sym (loop-fixed 0 k order (column order) _ none (none-stays order) (h .first) (h .count) (sym (h .state)))) ∙ accepted-is
 
     -- every column was cleared
     pub found-is : (m : Matrix) (d x : Row)

@@ -1,3 +1,4 @@
+pub mod Rows
 pub mod Column
 pub mod Answer
 pub mod Alike

@@ -1,31 +1,20 @@
 -- "The pivot is the first of largest magnitude by `>`": it stands among the rows from i on, no row's magnitude is above its own, and no earlier row's is as large. Assumes nothing.
 use mathlib.Core.Path.{_≡_, refl, sym, _∙_}
-use mathlib.Core.Logic.{_⊎_, inl, inr, ⊎-elim}
+use mathlib.Core.Logic.{inl, inr, ⊎-elim}
 use mathlib.Core.Bool.{Bool, true, false, cond, true≢false}
 use Prim.Native.Nat.{ℕ, _+_, _≤_, _<_}
 use native.Mathlib.Nat.{eq-or-lt-of-le, le-of-suc-le-suc}
 use native.Mathlib.Numerals.{add-one}
 use native.Mathlib.Omega.{arith}
-use lib.Ieee.{Float, lt, le, isNan}
+use lib.Ieee.{lt, le, isNan}
 use Rattle.laws.proofs.Loop.{loops-together}
-use Rattle.float.specs.Magnitude.{magnitudeOf}
 use Rattle.solve.specs.Elimination.{Matrix, cell, larger, pivotOf}
+use Rattle.solve.specs.Words.{sizeAt, FirstLargest}
 use Rattle.solve.proofs.Order.{lt-trans, lt-irrefl, not-below, not-as-large, above-number, below-number, as-large}
-
-abbrev size : Matrix → ℕ → ℕ → Float
-size a i r = magnitudeOf (cell a r i)
-
--- of the rows from i up to k, row v is the first of largest magnitude in column i: row i, or above it, and no later row is above v, no earlier one as large
-pub record FirstLargest (a : Matrix) (i k v : ℕ) : Type 0 where
-  pub from : i ≤ v
-  pub below : v < k
-  pub above : (v ≡ i) ⊎ (lt (size a i i) (size a i v) ≡ true)
-  pub largest : (r : ℕ) → i ≤ r → r < k → lt (size a i v) (size a i r) ≡ false
-  pub first : (r : ℕ) → i ≤ r → r < v → le (size a i v) (size a i r) ≡ false
 
 module _ (a : Matrix) (i : ℕ) where
   -- row k, above the first of largest magnitude so far
-  taken : (k v : ℕ) → FirstLargest a i k v → lt (size a i v) (size a i k) ≡ true → FirstLargest a i (k + 1) k
+  taken : (k v : ℕ) → FirstLargest a i k v → lt (sizeAt a i v) (sizeAt a i k) ≡ true → FirstLargest a i (k + 1) k
   taken k v h e =
       record {
         from = omega (arith, h .from, h .below);
@@ -34,11 +23,11 @@ module _ (a : Matrix) (i : ℕ) where
         largest = λ r m n. ⊎-elim (λ d. rw d (lt-irrefl _)) (λ l. not-below _ _ (before r m l)) (eq-or-lt-of-le (le-of-suc-le-suc (rw add-one at n)));
         first = before;
       } where
-        before : (r : ℕ) → i ≤ r → r < k → le (size a i k) (size a i r) ≡ false
+        before : (r : ℕ) → i ≤ r → r < k → le (sizeAt a i k) (sizeAt a i r) ≡ false
         before r m l = not-as-large _ _ _ e (h .largest r m l)
 
   -- row k, not above it
-  left : (k v : ℕ) → FirstLargest a i k v → lt (size a i v) (size a i k) ≡ false → FirstLargest a i (k + 1) v
+  left : (k v : ℕ) → FirstLargest a i k v → lt (sizeAt a i v) (sizeAt a i k) ≡ false → FirstLargest a i (k + 1) v
   left k v h e =
       record {
         from = h .from;
@@ -50,8 +39,8 @@ module _ (a : Matrix) (i : ℕ) where
 
   step : (k v : ℕ) → FirstLargest a i k v → FirstLargest a i (k + 1) (larger a i k v)
   unfolding larger
-  step k v h = pick (lt (size a i v) (size a i k)) refl where
-    pick : (t : Bool) → lt (size a i v) (size a i k) ≡ t → FirstLargest a i (k + 1) (cond t k v)
+  step k v h = pick (lt (sizeAt a i v) (sizeAt a i k)) refl where
+    pick : (t : Bool) → lt (sizeAt a i v) (sizeAt a i k) ≡ t → FirstLargest a i (k + 1) (cond t k v)
     pick true e = taken k v h e
     pick false e = left k v h e
 
@@ -74,8 +63,8 @@ module _ (a : Matrix) (i : ℕ) where
 
   earlier : (k u v : ℕ) → FirstLargest a i k u → FirstLargest a i k v → u < v → ⊥
   earlier k u v h l m =
-      let q : lt (size a i i) (size a i v) ≡ true = ⊎-elim (λ e. absurd (omega (arith, h .from))) (λ q. q) (l .above) in
-      let n : isNan (size a i u) ≡ false = ⊎-elim (λ e. rw e (below-number _ _ q)) (above-number _ _) (h .above) in
+      let q : lt (sizeAt a i i) (sizeAt a i v) ≡ true = ⊎-elim (λ e. absurd (omega (arith, h .from))) (λ q. q) (l .above) in
+      let n : isNan (sizeAt a i u) ≡ false = ⊎-elim (λ e. rw e (below-number _ _ q)) (above-number _ _) (h .above) in
       true≢false (sym (as-large (cell a u i) (cell a v i) n (above-number _ _ q) (h .largest v (l .from) (l .below))) ∙ l .first u (h .from) m)
 
   one-first-largest : (k u v : ℕ) → FirstLargest a i k u → FirstLargest a i k v → u ≡ v

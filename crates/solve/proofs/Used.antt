@@ -11,17 +11,8 @@ use Rattle.laws.proofs.Loop.{loops-together}
 use Rattle.float.specs.Magnitude.{magnitudeOf}
 use Rattle.solve.specs.Elimination.{Row, Matrix, System, Stage, going, none, value, cell, limit, larger, pivotOf, pivoted, cellLess, rowLess, rowCleared, cleared, tested, column, eliminated, knownLess, unknownOf, placed, substituted}
 use Rattle.solve.specs.Answer.{answerOf, solvedOf}
-use Rattle.solve.proofs.Alike.{Alike, alike-set, alike-swapped}
-
-abbrev pub RowAlike : ℕ → Row → Row → Type 0
-RowAlike = Alike _≡_ nan
-
-abbrev pub MatrixAlike : ℕ → Matrix → Matrix → Type 0
-MatrixAlike p = Alike (RowAlike p) [] p
-
-pub record Agree (p : ℕ) (s t : System) : Type 0 where
-  pub matrix : MatrixAlike p (s .matrix) (t .matrix)
-  pub right : RowAlike p (s .right) (t .right)
+use Rattle.solve.specs.Words.{RowAlike, MatrixAlike, Agree, usedPart}
+use Rattle.solve.proofs.Alike.{alike-set, alike-swapped}
 
 -- ---- the pivot
 
@@ -132,27 +123,24 @@ pub used-alone : (order : ℕ) (a a′ : Matrix) (b b′ : Row)
 unfolding solvedOf
 used-alone order a a′ b b′ h = rw (same-answer order _ _ (agree-eliminated order _ _ h))
 
--- ---- the Rust's matrix has `order` rows and columns: that part of ours gives the same
+-- ---- the Rust's matrix has `order` rows and columns: that part of ours gives its answer
 
-abbrev pub square : ℕ → Matrix → Matrix
-square p a = map (take p) (take p a)
-
-row-of-square : (p : ℕ) (a : Matrix) (r : ℕ) → r < p → getD (square p a) r [] ≡ take p (getD a r [])
-row-of-square p a r m = ap (getD (square p a) r) (sym (take-nil p)) ∙ List·getD-map (take p) (take p a) r [] ∙ ap (take p) (getD-take p a r [] m)
+row-of-part : (p : ℕ) (a : Matrix) (r : ℕ) → r < p → getD (usedPart p a) r [] ≡ take p (getD a r [])
+row-of-part p a r m = ap (getD (usedPart p a) r) (sym (take-nil p)) ∙ List·getD-map (take p) (take p a) r [] ∙ ap (take p) (getD-take p a r [] m)
 
 row-alike : (p : ℕ) (b : Row) → p ≤ length b → RowAlike p (take p b) b
 row-alike p b l = record { long = rw (length-take-le p b l) (omega arith); long′ = l; each = λ i m. getD-take p b i nan m }
 
-pub square-alone : (order : ℕ) (a : Matrix) (b : Row)
+pub part-alone : (order : ℕ) (a : Matrix) (b : Row)
     → order ≤ length a → ((r : ℕ) → r < order → order ≤ length (getD a r [])) → order ≤ length b
-    → solvedOf (square order a) (take order b) order ≡ solvedOf a b order
-square-alone order a b la lr lb =
+    → solvedOf (usedPart order a) (take order b) order ≡ solvedOf a b order
+part-alone order a b la lr lb =
     used-alone order _ _ _ _
     (record {
       matrix = record {
         long = rw (length-map (take order a) (take order), length-take-le order a la) (omega arith);
         long′ = la;
-        each = λ r m. rw (row-of-square order a r m) (row-alike order (getD a r []) (lr r m));
+        each = λ r m. rw (row-of-part order a r m) (row-alike order (getD a r []) (lr r m));
       };
       right = row-alike order b lb;
     })

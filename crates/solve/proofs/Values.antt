@@ -9,14 +9,11 @@ use lib.Ieee.{nan}
 use Rattle.laws.specs.Scaled.{plusZero}
 use Rattle.laws.proofs.Loop.{loops-together}
 use Rattle.frame.specs.Questions.{accepted}
+use Rattle.frame.specs.Calls.{orderRefusal}
 use Rattle.solve.specs.declared.Solved.{Solved}
 use Rattle.solve.specs.Elimination.{Row, Matrix, System, Stage, going, none, value, placed, substituted}
-use Rattle.solve.specs.Answer.{refusalOf, unsolvedOf, answerOf, solvedOf}
-
--- 25 values, plus zero from n on
-pub record Padded (n : ℕ) (x : Row) : Type 0 where
-  pub full : length x ≡ 25
-  pub unused : (k : ℕ) → n ≤ k → k < 25 → value x k ≡ plusZero
+use Rattle.solve.specs.Words.{Padded, Whole}
+use Rattle.solve.specs.Answer.{refused, answerOf, solvedOf}
 
 zeros-padded : (n : ℕ) → Padded n (replicate 25 plusZero)
 zeros-padded n = record { full = length-replicate 25 plusZero; unused = λ k _ l. getD-replicate 25 k plusZero nan l }
@@ -34,24 +31,18 @@ unfolding substituted
 padded-substituted p s =
     loops-together (λ _ x _. Padded p x) 0 p (placed p s) (λ _ u. u) (padded-placed p s) (omega arith) _ tt (zeros-padded p)
 
--- what holds of every answer: its number, its count where a solution is found, and its values
-pub record Whole (refusal order : ℕ) (r : Solved) : Type 0 where
-  pub numbered : r .refusal ≡ refusal
-  pub counted : r .found ≡ true → r .solution .order ≡ order
-  pub padded : Padded (r .solution .order) (r .solution .values)
-
-whole-unsolved : (n order : ℕ) → Whole n order (unsolvedOf n)
-whole-unsolved n order = record { numbered = refl; counted = λ e. cc; padded = zeros-padded 0 }
+whole-refused : (n order : ℕ) → Whole n order (refused n)
+whole-refused n order = record { numbered = refl; counted = λ e. cc; padded = zeros-padded 0 }
 
 whole-answer : (order : ℕ) (s : Stage) → Whole 0 order (answerOf order s)
 unfolding answerOf
-whole-answer order none = whole-unsolved 0 order
+whole-answer order none = whole-refused 0 order
 whole-answer order (going s) = record { numbered = refl; counted = λ _. refl; padded = padded-substituted order s }
 
 whole-accepted : (n order : ℕ) (x y : Solved) → Whole 0 order x → Whole n order y → Whole n order (accepted n x y)
 whole-accepted zero order x y h l = h
 whole-accepted (suc n) order x y h l = l
 
-pub solved-whole : (a : Matrix) (b : Row) (order : ℕ) → Whole (refusalOf order) order (solvedOf a b order)
+pub solved-whole : (a : Matrix) (b : Row) (order : ℕ) → Whole (orderRefusal order) order (solvedOf a b order)
 unfolding solvedOf
-solved-whole a b order = whole-accepted (refusalOf order) order _ _ (whole-answer order _) (whole-unsolved _ order)
+solved-whole a b order = whole-accepted (orderRefusal order) order _ _ (whole-answer order _) (whole-refused _ order)

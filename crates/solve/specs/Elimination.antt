@@ -4,7 +4,8 @@ use mathlib.Core.Bool.{cond}
 use mathlib.Core.List.{List, []}
 use Prim.Native.Nat.{ℕ, _+_, _-_}
 use lib.ListN.{getD, set, replicate}
-use lib.Ieee.{Float, nan, binary64, sub, mul, div, lt, ofBits}
+use lib.Ieee.{Float, nan, binary64, sub, mul, div, lt}
+use Rattle.laws.specs.Constants.{tiny}
 use Rattle.laws.specs.Loop.{loop}
 use Rattle.laws.specs.Scaled.{plusZero}
 use Rattle.float.specs.Magnitude.{magnitudeOf}
@@ -35,9 +36,9 @@ stored a r c x = set a r (set (getD a r []) c x)
 abbrev pub less : Float → Float → Float → Float
 less x f y = sub binary64 x (mul binary64 f y)
 
--- 1e-9
+-- `1e-9`, which a pivot's magnitude must not be below
 abbrev pub limit : Float
-limit = ofBits binary64 0x3e11_2e0b_e826_d695
+limit = tiny
 
 -- ---- forward
 

@@ -5,17 +5,17 @@ use lib.ListN.{length}
 use borrow.Author.Needs.{needs}
 use Rattle.frame.proofs.Accepted.{DenoiseFrameCall, denoise-frame-call}
 use Rattle.frame.proofs.Size.{chroma-width-le}
-use Rattle.denoise.specs.Calls.{Planes, planes, denoisedFrame}
+use Rattle.denoise.specs.Calls.{Frame, planes, denoisedFrame}
 use Rattle.denoise.proofs.Calls.{frame-refused, frame-accepted}
 use Rattle.denoise.proofs.denoise_frame.Statement.{statement}
 use Rattle.denoise.proofs.denoise_frame.Tie as tie
 
 -- the planes and the destinations that are lent
-abbrev lent : tie.Start → Planes
+abbrev lent : tie.Start → Frame
 lent c = planes (c .args .y .now) (c .args .cb .now) (c .args .cr .now)
 
-abbrev held : tie.Start → Planes
-held c = planes (c .args .dy .now) (c .args .dcb .now) (c .args .dcr .now)
+abbrev held : tie.Start → Frame
+held c = planes (c .args .to-y .now) (c .args .to-cb .now) (c .args .to-cr .now)
 
 returns : tie.Need-returns
 returns c =
@@ -24,7 +24,7 @@ returns c =
 
 -- past the questions
 known : (c : tie.Else1) → let A = c .before .before .before .before .before .before .before .before .args in
-    DenoiseFrameCall (A .s) (A .y .now) (A .cb .now) (A .cr .now) (length (A .dy .now)) (length (A .dcb .now)) (length (A .dcr .now))
+    DenoiseFrameCall (A .s) (A .y .now) (A .cb .now) (A .cr .now) (length (A .to-y .now)) (length (A .to-cb .now)) (length (A .to-cr .now))
 known c = denoise-frame-call _ _ _ _ _ _ _ (sym (c .before .denoise-frame-refusal .ensures) ∙ c .if1 .left)
 
 smooth-plane-requires : tie.Need-smooth-plane-requires

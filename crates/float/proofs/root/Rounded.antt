@@ -92,7 +92,7 @@ module _ (N k q rest : ℕ) (s : Split N k q rest) where
       back k = omega arith
 
       cross : (r u p w : ℕ) → p ≡ 2 * w → r * u * (4 * w) ≡ r * (2 * u * p)
-      cross r u p w e = ap (λ (x : ℕ). r * u * x) (twice p w e) ∙ simp (mul-assoc, mul-comm, mul-left-comm)
+      cross r u p w e = ap (λ (x : ℕ). r * u * x) (twice p w e) ∙ simp (mul-assoc, mul-left-comm)
         where
           twice : (p w : ℕ) → p ≡ 2 * w → 4 * w ≡ 2 * p
           twice p w e = omega arith

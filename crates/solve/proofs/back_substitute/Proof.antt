@@ -1,31 +1,29 @@
--- `solve::back_substitute` meets its contract. The loop has done n of its turns. Assumes nothing.
-use mathlib.Core.Path.{_≡_}
-use Prim.Native.Nat.{_≤_, _-_}
+-- `solve::back_substitute` meets its contract: a turn gives one unknown more. Assumes nothing.
+use Prim.Native.Nat.{_-_}
 use borrow.Author.Needs.{needs}
-use Rattle.laws.specs.Loop.{loop}
-use Rattle.laws.proofs.Loop.{loop-starts, loop-turn, loop-ends}
+use Rattle.laws.proofs.Turns.{Turned, turned-starts, turned-more, turned-ends}
 use Rattle.solve.specs.Elimination.{placed, substituted}
 use Rattle.solve.proofs.back_substitute.Statement.{statement}
 use Rattle.solve.proofs.back_substitute.Tie as tie
 
 abbrev Inv-loop : tie.InvT-loop
-Inv-loop order a b x₀ n₀ x n = (n ≤ order) × (x ≡ loop 0 n (placed order (record { matrix = a; right = b })) x₀)
+Inv-loop a b order x₀ n₀ x n = Turned (placed order (record { matrix = a; right = b })) 0 order x₀ n x
 
 abbrev μ-loop : tie.MeasureT-loop
-μ-loop order a b x₀ n₀ x n = order - n
+μ-loop a b order x₀ n₀ x n = order - n
 
 loop-holds : tie.Need-loop-holds Inv-loop μ-loop
-loop-holds c = (search needs, loop-starts _ _ _)
+loop-holds c = turned-starts _ _ _ _ (search needs)
 
 loop-again : tie.Need-loop-again Inv-loop μ-loop
 unfolding placed
 loop-again c =
-    let l = c .before .before .before .loop in
-    (search needs, rw (c .unknown .ensures) (loop-turn _ _ _ _ _ (search needs) (l .inv .1)))
+    let at = c .before .before .before .before .before in
+    turned-more _ _ _ _ _ (at .loop .inv) (search needs) (rw (c .unknown .ensures))
 
 returns : tie.Need-returns Inv-loop μ-loop
 unfolding substituted
-returns c = let l = c .before .loop in loop-ends _ _ _ _ _ _ (l .inv .0) (c .loop-test .left) (l .inv .1)
+returns c = turned-ends _ _ _ _ (c .before .loop .inv) (c .loop-test .left)
 
 pub back-substitute-spec : {M : Type 1} → statement M
 back-substitute-spec =

@@ -1,44 +1,41 @@
 -- `solve::pivot_row` meets its contract. piv is the pivot among the rows from i up to r. Assumes nothing.
 use mathlib.Core.Bool.{true, false}
 use mathlib.Core.Logic.{⊎-elim}
-use mathlib.Core.Path.{_≡_, _∙_}
-use Prim.Native.Nat.{_+_, _≤_, _<_, _-_}
+use Prim.Native.Nat.{_+_, _<_, _-_}
 use native.Mathlib.Omega.{arith}
 use borrow.Author.Needs.{needs}
-use Rattle.laws.specs.Loop.{loop}
-use Rattle.laws.proofs.Loop.{loop-starts, loop-turn, loop-ends}
+use Rattle.laws.proofs.Turns.{Turned, turned-starts, turned-more, turned-ends}
 use Rattle.solve.specs.Elimination.{larger, pivotOf}
 use Rattle.solve.proofs.Column.{picked}
 use Rattle.solve.proofs.pivot_row.Statement.{statement}
 use Rattle.solve.proofs.pivot_row.Tie as tie
 
 abbrev Inv-loop : tie.InvT-loop
-Inv-loop order i a piv₀ r₀ piv r = (i + 1 ≤ r) × (r ≤ order) × (piv < order) × (piv ≡ loop (i + 1) r (larger a i) i)
+Inv-loop a order i piv₀ r₀ piv r = (piv < order) × Turned (larger a i) (i + 1) order i r piv
 
 abbrev μ-loop : tie.MeasureT-loop
-μ-loop order i a piv₀ r₀ piv r = order - r
+μ-loop a order i piv₀ r₀ piv r = order - r
 
 loop-holds : tie.Need-loop-holds Inv-loop μ-loop
-loop-holds c = (search needs, search needs, search needs, loop-starts _ _ _)
+loop-holds c = (search needs, turned-starts _ _ _ _ (search needs))
 
 loop-again : tie.Need-loop-again Inv-loop μ-loop
 unfolding larger
 loop-again c =
-    let l = c .before .before .before .before .before .before .loop in
+    let at = c .before .before .before .before .before .before in
     let m = c .before .before .before .magnitude .ensures in
     let m2 = c .before .magnitude2 .ensures in (
-      search needs,
-      search needs,
       ⊎-elim (λ w. omega arith) (λ w. omega arith) (c .if1 .came),
-      ⊎-elim
+      turned-more _ _ _ _ _ (at .loop .inv .1) (search needs)
+          (⊎-elim
           (λ w. picked _ _ _ _ true _ _ _ m2 m (w .0 .taken) (w .1))
           (λ w. picked _ _ _ _ false _ _ _ m2 m (w .0 .left) (w .1))
-          (c .if1 .came) ∙ loop-turn _ _ _ _ _ (l .inv .0) (l .inv .3),
+          (c .if1 .came)),
     )
 
 returns : tie.Need-returns Inv-loop μ-loop
 unfolding pivotOf
-returns c = let l = c .before .loop in (loop-ends _ _ _ _ _ _ (l .inv .1) (c .loop-test .left) (l .inv .3), l .inv .2)
+returns c = let l = c .before .loop in (turned-ends _ _ _ _ (l .inv .1) (c .loop-test .left), l .inv .0)
 
 pub pivot-row-spec : {M : Type 1} → statement M
 pivot-row-spec =

@@ -20,33 +20,33 @@ loop-holds : tie.Need-loop-holds Inv-loop μ-loop
 loop-holds c = let S = c .before .before .before in (omega arith, S .pre .2, S .pre .3, rw (zero-mul (S .args .width)))
 
 -- the row that a turn fills lies within the plane
-within : (c : tie.In-loop Inv-loop μ-loop) → let A = c .before .before .before .before .before .args in c .before .loop .row * A .width + A .width ≤ A .width * A .height
-within c = row-within _ _ _ (c .loop-test .taken)
+row-fits : (c : tie.In-loop Inv-loop μ-loop) → let A = c .before .before .before .before .before .args in c .before .loop .row * A .width + A .width ≤ A .width * A .height
+row-fits c = row-within _ _ _ (c .loop-test .taken)
 
 mul-a : tie.Need-mul-a Inv-loop μ-loop
-mul-a c = omega (arith, within c)
+mul-a c = omega (arith, row-fits c)
 
 add-e : tie.Need-add-e Inv-loop μ-loop
-add-e c = omega (arith, within c)
+add-e c = omega (arith, row-fits c)
 
 mul-smooth-row : tie.Need-mul-smooth-row Inv-loop μ-loop
-mul-smooth-row c = omega (arith, within (c .before))
+mul-smooth-row c = omega (arith, row-fits (c .before))
 
 part-smooth-row-end : tie.Need-part-smooth-row-end Inv-loop μ-loop
-part-smooth-row-end c = omega (arith, within (c .before))
+part-smooth-row-end c = omega (arith, row-fits (c .before))
 
 smooth-row-requires : tie.Need-smooth-row-requires Inv-loop μ-loop
 smooth-row-requires c κs =
     let S = c .before .before .before .before .before .before .before in
     let L = c .before .before .before .loop in
-    (S .pre .0, c .before .before .loop-test .taken, S .pre .1, L .inv .1, rw add-sub-cancel-left (row-length (L .dst) (S .args .width) (L .row) (omega (arith, within (c .before .before)))))
+    (S .pre .0, c .before .before .loop-test .taken, S .pre .1, L .inv .1, rw add-sub-cancel-left (row-length (L .dst) (S .args .width) (L .row) (omega (arith, row-fits (c .before .before)))))
 
 loop-again : tie.Need-loop-again Inv-loop μ-loop
 loop-again c =
     let A = c .before .before .before .before .before .before .before .before .before .before .before .before .args in
     let L = c .before .before .before .before .before .before .before .before .loop in
     let T = c .before .before .before .before .before .before .before in
-    (omega arith, omega arith, omega arith, rows-more (A .src .now) (A .width) (A .height) (L .row) (L .dst) _ _ (omega (arith, within T)) (L .inv .3) (c .before .before .before .before .smooth-row .ensures))
+    (omega arith, omega arith, omega arith, rows-more (A .src .now) (A .width) (A .height) (L .row) (L .dst) _ _ (omega (arith, row-fits T)) (L .inv .3) (c .before .before .before .before .smooth-row .ensures))
 
 returns : tie.Need-returns Inv-loop μ-loop
 returns c =

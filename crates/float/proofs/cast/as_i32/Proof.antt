@@ -12,9 +12,10 @@ use mir.Val.{SFits, toZ}
 use mir.ValLaws.{toZ-ofZ, toZ-pos}
 use borrow.Author.Needs.{needs}
 use borrow.Author.Tests.{lt-ltb}
+use Rattle.laws.specs.Scaled.{plusZero}
 use Rattle.float.specs.Magnitude.{magnitudeOf}
 use Rattle.float.proofs.Cut.{side}
-use Rattle.float.proofs.Zero.{zeroF, under, lt-zero}
+use Rattle.float.proofs.Zero.{under, lt-zero}
 use Rattle.float.proofs.cast.as_i32.Statement.{statement}
 use Rattle.float.proofs.cast.as_i32.Tie as tie
 
@@ -35,7 +36,7 @@ signed-is (fin true (suc m) e) =
     twice w = omega arith
 
 -- the signed number, from the test of x and the unsigned n
-known : (x y : Float) (s : Bool) (n : ℕ) → lt x zeroF ≡ s → y ≡ magnitudeOf x → n ≡ toUnsigned 64 y → side 31 s n ≡ toSigned 31 x
+known : (x y : Float) (s : Bool) (n : ℕ) → lt x plusZero ≡ s → y ≡ magnitudeOf x → n ≡ toUnsigned 64 y → side 31 s n ≡ toSigned 31 x
 known x y s n t p e = sym (signed-is x ∙ rw (← lt-zero x, t, ← p, ← e))
 
 negated : (n : ℕ) → n < 2 ^ 31 → pos 0 -ℤ toZ w32 n ≡ negℤ (pos n)
@@ -55,7 +56,7 @@ more : (n : ℕ) (k : ℕ) → k ≤ n → k ≡ min n k
 more n k h = omega arith
 
 -- what both calls say, where the sign of x and the two sides of 2 ^ 31 part
-from-calls : (c : tie.After-as-u64) (s : Bool) → lt (c .before .before .args .x) zeroF ≡ s → side 31 s (c .as-u64 .result) ≡ toSigned 31 (c .before .before .args .x)
+from-calls : (c : tie.After-as-u64) (s : Bool) → lt (c .before .before .args .x) plusZero ≡ s → side 31 s (c .as-u64 .result) ≡ toSigned 31 (c .before .before .args .x)
 from-calls c s t = known (c .before .before .args .x) (c .before .magnitude .result) s (c .as-u64 .result) t (c .before .magnitude .ensures) (c .as-u64 .ensures)
 
 sub-result : tie.Need-sub-result

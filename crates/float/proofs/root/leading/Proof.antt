@@ -42,7 +42,7 @@ loop-again : tie.Need-loop-again Inv-loop μ-loop
 loop-again c = shifted-more (c .before .before .args .m) (c .before .loop .n) (c .before .loop .h) (c .before .before .pre .0) (c .before .loop .inv) (c .loop-test .taken)
 
 returns : tie.Need-returns Inv-loop μ-loop
-returns c = (back (c .before .before .args .m) (c .before .loop .n) (c .before .loop .h) (c .before .loop .inv), omega arith, omega arith, omega arith, omega arith)
+returns c = (back (c .before .before .args .m) (c .before .loop .n) (c .before .loop .h) (c .before .loop .inv), record { lead = omega arith; few = omega arith; low = omega arith; high = omega arith })
 
 pub leading-spec : {M : Type 1} → statement M
 leading-spec = tie.close (tie.spec Inv-loop μ-loop loop-holds (λ c. omega arith) (λ c. omega arith) (λ c. omega arith) loop-again (λ c. omega arith) returns)

@@ -35,7 +35,7 @@ q-of c = c .root-digits .result .root
 parts : (c : tie.After-root-digits) → Split (N-of c) (s-of c - 26) (q-of c) (c .root-digits .result .rest)
 parts c =
     let e = c .before .even .ensures in
-    split (n-of c) (s-of c) (q-of c) (c .root-digits .result .rest) (e .1) (e .2) (omega (arith, e .3)) (c .root-digits .ensures .0) (c .root-digits .ensures .1)
+    split (n-of c) (s-of c) (q-of c) (c .root-digits .result .rest) (e .1 .lead) (e .1 .few) (omega (arith, e .1 .low)) (c .root-digits .ensures .0) (c .root-digits .ensures .1)
 
 up : (c : tie.After-root-digits) → q-of c < c .root-digits .result .rest → Rooted (N-of c) (q-of c + 1) (s-of c - 26)
 up c h = subst (λ (q : ℕ). Rooted (N-of c) q (s-of c - 26)) (sym (add-one (q-of c))) (rises _ _ _ _ (parts c) h)
@@ -44,7 +44,7 @@ down : (c : tie.After-root-digits) → c .root-digits .result .rest ≤ q-of c �
 down c h = stays _ _ _ _ (parts c) h
 
 small : (c : tie.After-root-digits) → s-of c - 26 ≤ 2000
-small c = omega (arith, c .before .even .ensures .4)
+small c = omega (arith, c .before .even .ensures .1 .high)
 
 add-result-2 : tie.Need-add-result-2
 add-result-2 c = omega (arith, small (c .before .before), up (c .before .before) (c .if1 .taken) .hi)

@@ -54,9 +54,6 @@ returns c =
     let x = c .before .before .args .x in (
       subst (λ (a : ℕ). HasValue x false a (2 ^ 1074 * 2 ^ 1074)) (sym (c .leading .ensures .0)) (low-value x (known (c .before .before)) (c .before .if1 .taken)),
       c .leading .ensures .1,
-      c .leading .ensures .2,
-      c .leading .ensures .3,
-      c .leading .ensures .4,
     )
 
 add-t7 : tie.Need-add-t7
@@ -67,7 +64,7 @@ returns-2 c =
     let x = c .before .args .x in
     let p = known (c .before) in
     let f = high-field x p (c .if1 .left) in
-    (high-value x p (c .if1 .left), omega arith, omega (arith, f .0, p .few), omega (arith, f .1), omega (arith, f .1, p .top))
+    (high-value x p (c .if1 .left), record { lead = omega arith; few = omega (arith, f .0, p .few); low = omega (arith, f .1); high = omega (arith, f .1, p .top) })
 
 pub unpacked-spec : {M : Type 1} → statement M
 unpacked-spec = tie.close (tie.spec float-to-bits-b leading-requires returns (λ c. search needs) add-t7 returns-2)

@@ -5,9 +5,10 @@ use lib.IntN.{pos}
 use lib.Ieee.{Float, binary64, mul, div, ofInt, toUnsigned}
 use borrow.Author.Needs.{needs}
 use borrow.Author.Tests.{eq-eqb, ne-eqb}
+use Rattle.laws.specs.Constants.{sixteen}
 use Rattle.float.specs.Round.{roundHalfAway}
 use Rattle.float.specs.Root.{root}
-use Rattle.float.specs.Steps.{sixteen, deviation16, sigma16Of}
+use Rattle.float.specs.Steps.{deviation16, sigma16Of}
 use Rattle.float.proofs.sigma.sigma16.Statement.{statement}
 use Rattle.float.proofs.sigma.sigma16.Tie as tie
 

@@ -6,9 +6,10 @@ use native.Mathlib.Omega.{arith}
 use lib.Dec.{T}
 use lib.Ieee.{Float, nan, inf, fin, binary64, neg, fits, ofBits}
 use borrow.Author.Tests.{ltb-false, eqb-true}
+use Rattle.laws.specs.Scaled.{plusZero}
 use Rattle.float.specs.Magnitude.{magnitudeOf}
 use Rattle.float.proofs.Units.{zero-exponent}
-use Rattle.float.proofs.Zero.{zeroF, under, null, lt-zero, eq-zero}
+use Rattle.float.proofs.Zero.{under, null, lt-zero, eq-zero}
 use Rattle.float.proofs.sign.magnitude.Statement.{statement}
 use Rattle.float.proofs.sign.magnitude.Tie as tie
 
@@ -20,7 +21,7 @@ below (inf false) h = cc
 below (fin true m e) h = refl
 below (fin false m e) h = cc
 
-at-zero : (x : Float) → fits binary64 x ≡ true → null x ≡ true → zeroF ≡ magnitudeOf x
+at-zero : (x : Float) → fits binary64 x ≡ true → null x ≡ true → plusZero ≡ magnitudeOf x
 unfolding magnitudeOf ofBits
 at-zero nan f h = absurd (subst T (sym h) tt)
 at-zero (inf s) f h = absurd (subst T (sym h) tt)

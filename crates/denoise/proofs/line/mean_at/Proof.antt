@@ -1,0 +1,65 @@
+-- `denoise::line::mean_at`: the weighed sum of three sums, none above 4 × 65,535, has a mean that fits a sample. Assumes nothing.
+use mathlib.Core.List.{List}
+use Prim.Native.Nat.{ℕ, _+_, _*_, _<_, _≤_}
+use native.Mathlib.Omega.{arith}
+use lib.ListN.{length, getD}
+use borrow.Author.Needs.{needs}
+use Rattle.denoise.specs.Line.{weigh, SumsLow, lineMean}
+use borrow.Author.Needs.{needs}
+use Rattle.denoise.proofs.line.mean_at.Statement.{statement}
+use Rattle.denoise.proofs.line.mean_at.Tie as tie
+
+mul-weigh-three : tie.Need-mul-weigh-three
+mul-weigh-three c = search needs
+
+shared-slice-read-weigh-three : tie.Need-shared-slice-read-weigh-three
+shared-slice-read-weigh-three c = search needs
+
+add-weigh-three : tie.Need-add-weigh-three
+add-weigh-three c = search needs
+
+mul-weigh-three-2 : tie.Need-mul-weigh-three-2
+mul-weigh-three-2 c = search needs
+
+shared-slice-read-weigh-three-2 : tie.Need-shared-slice-read-weigh-three-2
+shared-slice-read-weigh-three-2 c = search needs
+
+add-weigh-three-2 : tie.Need-add-weigh-three-2
+add-weigh-three-2 c = search needs
+
+mul-weigh-three-3 : tie.Need-mul-weigh-three-3
+mul-weigh-three-3 c = search needs
+
+shared-slice-read-weigh-three-3 : tie.Need-shared-slice-read-weigh-three-3
+shared-slice-read-weigh-three-3 c = search needs
+
+low : (line : List ℕ) (c : ℕ) → c + 2 < length line → SumsLow line → weigh (getD line c 0) (getD line (c + 1) 0) (getD line (c + 2) 0) ≤ 16 * 65535
+low line c l h = omega (arith, h c (omega arith), h (c + 1) (omega arith), h (c + 2) (omega arith))
+
+weigh-three-requires : tie.Need-weigh-three-requires
+weigh-three-requires c κs =
+    let S = c .before .before .before .before in omega (arith, low (S .args .line .now) (S .args .c) (S .pre .0) (S .pre .1))
+
+mean-of-requires : tie.Need-mean-of-requires
+mean-of-requires c κs =
+    let S = c .before .before .before .before .before in omega (arith, low (S .args .line .now) (S .args .c) (S .pre .0) (S .pre .1))
+
+returns : tie.Need-returns
+unfolding lineMean
+returns c = cc
+
+pub mean-at-spec : {M : Type 1} → statement M
+mean-at-spec =
+    tie.close
+    (tie.spec
+    mul-weigh-three
+    shared-slice-read-weigh-three
+    add-weigh-three
+    mul-weigh-three-2
+    shared-slice-read-weigh-three-2
+    add-weigh-three-2
+    mul-weigh-three-3
+    shared-slice-read-weigh-three-3
+    weigh-three-requires
+    mean-of-requires
+    returns)
