@@ -9,7 +9,8 @@ use Rattle.frame.specs.Planes.{viewOf}
 use Rattle.frame.specs.Calls.{pairRefusal, gateRefusal}
 use Rattle.frame.specs.declared.Shape.{Shape}
 use Rattle.frame.specs.declared.view.Component.the-variants.{Y, CbCr}
-use Rattle.noise.specs.Products.{Pair, own, onward}
+use Rattle.noise.specs.Noise.{Pair}
+use Rattle.noise.specs.Products.{own, onward}
 use Rattle.noise.specs.Seen.{seen}
 use Rattle.noise.specs.Claim.{Limited, Case}
 use Rattle.noise.specs.Steps.{windowF, dotF}

@@ -12,7 +12,7 @@ use Rattle.frame.specs.declared.view.View.{View}
 use Rattle.frame.proofs.Viewed.{viewed-length}
 use Rattle.float.specs.Magnitude.{magnitudeOf}
 use Rattle.float.specs.Steps.{sigma16Of}
-use Rattle.noise.specs.Products.{Pair}
+use Rattle.noise.specs.Noise.{Pair}
 use Rattle.noise.specs.Steps.{dotF, lagF}
 use Rattle.noise.proofs.Steps.{lag-window}
 use Rattle.profile.specs.Steps.{planeSquares, planeSigma16}

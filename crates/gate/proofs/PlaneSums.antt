@@ -19,8 +19,8 @@ use Rattle.laws.proofs.Scaled.{scaled-int}
 use Rattle.frame.specs.View.{viewed}
 use Rattle.frame.specs.declared.view.View.{View}
 use Rattle.frame.proofs.Viewed.{viewed-length}
-use Rattle.noise.specs.Noise.{noise}
-use Rattle.noise.specs.Seen.{seen, noiseOf, Seen, sumOver, squared}
+use Rattle.noise.specs.Noise.{noise, noiseOf}
+use Rattle.noise.specs.Seen.{seen, Seen, sumOver, squared}
 use Rattle.noise.specs.Products.{own, onward}
 use Rattle.noise.specs.Claim.{Limited}
 use Rattle.noise.specs.Steps.{dotF, lagF}

@@ -17,8 +17,8 @@ use Rattle.laws.proofs.Whole.{abs-mul-le, square-nonneg}
 use Rattle.frame.specs.Calls.{pairRefusal}
 use Rattle.frame.specs.View.{whole}
 use Rattle.frame.specs.declared.view.View.{View}
-use Rattle.noise.specs.Products.{Pair}
-use Rattle.noise.specs.Seen.{seen, noiseOf, Seen}
+use Rattle.noise.specs.Noise.{Pair, noiseOf}
+use Rattle.noise.specs.Seen.{seen, Seen}
 use Rattle.noise.specs.Steps.{lagF}
 use Rattle.noise.proofs.Steps.{laggedSum}
 use Rattle.noise.proofs.Seen.{plane-noise-le, seen-plane}

@@ -5,7 +5,7 @@ use Prim.Native.Nat.{ℕ, _<_, _≤_}
 use lib.Ieee.{Float, binary64, div, le}
 use borrow.Author.Tests.{le-leb, lt-leb, eq-eqb, ne-eqb}
 use Rattle.laws.specs.Scaled.{plusZero}
-use Rattle.noise.specs.Products.{Pair}
+use Rattle.noise.specs.Noise.{Pair}
 use Rattle.noise.specs.Steps.{dotF, lagF}
 use Rattle.noise.proofs.Steps.{dot-window}
 use Rattle.gate.specs.RowCorrelation.{energyF, correlationOf, rowCorrelation}

@@ -9,7 +9,7 @@ use Rattle.frame.specs.Questions.{accepted}
 use Rattle.frame.specs.declared.Shape.{Shape}
 use Rattle.frame.specs.declared.view.Component.{Component}
 use Rattle.frame.specs.declared.view.Component.the-variants.{Y, CbCr}
-use Rattle.noise.specs.Products.{Pair, pair}
+use Rattle.noise.specs.Noise.{Pair, pair}
 use Rattle.noise.proofs.SeenCalls.{pair-whole, first-whole, second-whole}
 use Rattle.gate.specs.RowCorrelation.{rowCorrelation}
 use Rattle.gate.specs.Tests.{lumaOf, chromaFinding}

@@ -15,7 +15,7 @@ use Rattle.frame.specs.Calls.{gateRefusal}
 use Rattle.frame.specs.declared.Shape.{Shape}
 use Rattle.frame.specs.declared.view.Component.the-variants.{Y, CbCr}
 use Rattle.float.specs.Magnitude.{magnitudeOf}
-use Rattle.noise.specs.Products.{Pair}
+use Rattle.noise.specs.Noise.{Pair}
 use Rattle.noise.specs.Seen.{seen}
 use Rattle.noise.specs.Steps.{dotF}
 use Rattle.profile.specs.Steps.{planeSigma16}

@@ -2,7 +2,8 @@
 use mathlib.Core.List.{List}
 use Prim.Native.Nat.{ℕ, _-_}
 use Rattle.laws.specs.Window.{Place, window}
-use Rattle.noise.specs.Products.{Pair, own, onward}
+use Rattle.noise.specs.Noise.{Pair}
+use Rattle.noise.specs.Products.{own, onward}
 use Rattle.noise.specs.Claim.{Case}
 use Rattle.noise.specs.Steps.{windowF, dotF, lagF}
 use Rattle.gate.specs.RowCorrelation.{energyF}

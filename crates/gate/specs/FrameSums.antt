@@ -1,7 +1,7 @@
 -- The sums that a gate works with, of planes p and q of the first and the second frame: squares exactly, the others as the Rust adds them.
 use mathlib.Core.Path.{_≡_}
 use Prim.Native.Nat.{ℕ}
-use Rattle.noise.specs.Products.{Pair}
+use Rattle.noise.specs.Noise.{Pair}
 use Rattle.noise.specs.Steps.{dotF, lagF}
 use Rattle.profile.specs.Steps.{planeSquares}
 use Rattle.gate.specs.declared.sums.FirstSums.{FirstSums}

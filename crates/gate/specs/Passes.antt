@@ -6,7 +6,7 @@ use lib.Ieee.{le}
 use Rattle.laws.specs.Constants.{threeQuarters}
 use Rattle.laws.specs.Scaled.{plusZero}
 use Rattle.float.specs.Magnitude.{magnitudeOf}
-use Rattle.noise.specs.Products.{Pair}
+use Rattle.noise.specs.Noise.{Pair}
 use Rattle.noise.specs.Steps.{dotF}
 use Rattle.gate.specs.RowCorrelation.{rowCorrelation}
 use Rattle.gate.specs.Tests.{timeTest, lumaRow}

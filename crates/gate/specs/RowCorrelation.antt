@@ -5,7 +5,8 @@ use Prim.Native.Nat.{ℕ}
 use lib.Dec.{eqb, leb}
 use lib.Ieee.{Float, binary64, div, le}
 use Rattle.laws.specs.Scaled.{plusZero}
-use Rattle.noise.specs.Products.{Pair, own}
+use Rattle.noise.specs.Noise.{Pair}
+use Rattle.noise.specs.Products.{own}
 use Rattle.noise.specs.Steps.{windowF, lagF}
 
 -- `e += n[r * w + c] * n[r * w + c];` over every row and column

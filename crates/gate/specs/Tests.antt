@@ -9,7 +9,8 @@ use Rattle.laws.specs.Constants.{threeQuarters, twoFifths}
 use Rattle.laws.specs.Scaled.{plusZero}
 use Rattle.float.specs.Magnitude.{magnitudeOf}
 use Rattle.float.specs.Root.{root}
-use Rattle.noise.specs.Products.{Pair, own, onward}
+use Rattle.noise.specs.Noise.{Pair}
+use Rattle.noise.specs.Products.{own, onward}
 use Rattle.noise.specs.Steps.{windowF, dotF}
 use Rattle.profile.specs.Steps.{planeSigma16}
 use Rattle.gate.specs.RowCorrelation.{rowCorrelation}

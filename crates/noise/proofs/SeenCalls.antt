@@ -10,7 +10,7 @@ use Rattle.frame.specs.declared.view.Component.{Component}
 use Rattle.frame.proofs.Facts.{Known, Plane}
 use Rattle.frame.proofs.Size.{width-le, height-le}
 use Rattle.frame.proofs.Accepted.{pair-call, gate-call}
-use Rattle.noise.specs.Products.{pair}
+use Rattle.noise.specs.Noise.{pair}
 use Rattle.noise.specs.Seen.{seen, Seen}
 use Rattle.noise.proofs.Accepted.{plane-of}
 use Rattle.noise.proofs.Seen.{seen-all, seen-whole}

@@ -6,8 +6,8 @@ use lib.ListN.{replicate}
 use Rattle.table.specs.Cases.{Case}
 use Rattle.laws.specs.Table.{tabulate}
 use Rattle.frame.specs.Size.{chromaWidth, chromaHeight}
+use Rattle.noise.specs.Noise.{pair}
 use Rattle.noise.specs.Average.{Luma, quarters}
-use Rattle.noise.specs.Products.{pair}
 use Rattle.noise.specs.Quarters.{luma}
 use Rattle.chroma_correlation.specs.Steps.{corr}
 

@@ -6,9 +6,9 @@ use lib.IntN.{ℤ, pos, negsuc}
 use lib.ListN.{length}
 use lib.Ieee.{Float, fin}
 use mathlib.Core.Bool.{true, false}
+use Rattle.noise.specs.Noise.{Pair, pair}
 use Rattle.table.specs.Cases.{Case, row}
 use Rattle.frame.specs.declared.Shape.{Shape}
-use Rattle.noise.specs.Products.{Pair, pair}
 use Rattle.profile.specs.Steps.{planeSigma16}
 use Rattle.gate.specs.RowCorrelation.{rowCorrelation}
 use Rattle.gate.specs.Answers.{lumaAnswer, chromaAnswer}
