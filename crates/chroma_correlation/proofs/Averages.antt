@@ -10,7 +10,7 @@ use lib.Arith.{digits-lt}
 use lib.Dec.{eqb, lit≤, lit<}
 use lib.IntN.{ℤ, pos, negsuc, natAbs, _*ℤ_}
 use lib.ListN.{length, getD}
-use lib.Ieee.{Float, binary64, div, le, ofInt, ofBits, round}
+use lib.Ieee.{binary64, div, le, ofInt, ofBits, round}
 use mir.Syntax.{w64}
 use mir.Val.{toZ, ofZ}
 use mir.ValLaws.{toZ-ofZ}
