@@ -12,7 +12,7 @@ use Rattle.frame.specs.declared.view.Component.the-variants.{Y, CbCr}
 use Rattle.frame.specs.Questions.{Question, firstNo, filled, frameFilled, samplesLow, lagKnown, each}
 use Rattle.frame.specs.Calls.{shapeNumbers, planeNumbers, pairNumbers, frameNumbers, gateNumbers, copyQuestions, planeRefusal, pairRefusal, frameRefusal, fitRefusal, gateRefusal, denoiseFrameRefusal}
 use Rattle.frame.proofs.Refusal.{numbered, passed, parts}
-use Rattle.frame.proofs.Facts.{Small, is-small, Depth, is-depth, Known, is-known, Each, are-each, Plane, is-plane, Lows, are-low}
+use Rattle.frame.proofs.Facts.{Sides, is-small, Depth, is-depth, Known, is-known, Each, are-each, LowPlane, is-plane, Lows, are-low}
 
 -- a call that is asked about samples last
 sampled : (qs : List Question) (depth : ℕ) (planes : List (List ℕ)) → numbered qs ≡ true → firstNo (qs ++ (samplesLow depth planes ∷ [])) ≡ 0
@@ -24,7 +24,7 @@ sampled qs depth planes h e =
 -- ---- lone planes
 
 pub record PlaneCall (w h src dst : ℕ) : Type 0 where
-  pub size : Small w h
+  pub size : Sides w h
   pub source : src ≡ w * h
   pub destination : dst ≡ w * h
 
@@ -36,10 +36,10 @@ plane-call w h src dst e =
     record { size = is-small w h (p .0); source = l .0; destination = l .1 .0 }
 
 pub record PairCall (w h depth : ℕ) (a b : List ℕ) : Type 0 where
-  pub size : Small w h
+  pub size : Sides w h
   pub deep : Depth depth
-  pub first : Plane (w * h) depth a
-  pub second : Plane (w * h) depth b
+  pub first : LowPlane (w * h) depth a
+  pub second : LowPlane (w * h) depth b
 
 pub pair-call : (w h depth : ℕ) (a b : List ℕ) → pairRefusal w h depth a b ≡ 0 → PairCall w h depth a b
 unfolding pairRefusal pairNumbers
@@ -60,9 +60,9 @@ pair-call w h depth a b e =
 
 -- the planes of a frame
 pub record Frame (s : Shape) (luma blue red : List ℕ) : Type 0 where
-  pub y : Plane (samplesOf s Y) (s .depth) luma
-  pub cb : Plane (samplesOf s CbCr) (s .depth) blue
-  pub cr : Plane (samplesOf s CbCr) (s .depth) red
+  pub y : LowPlane (samplesOf s Y) (s .depth) luma
+  pub cb : LowPlane (samplesOf s CbCr) (s .depth) blue
+  pub cr : LowPlane (samplesOf s CbCr) (s .depth) red
 
 is-frame : (s : Shape) (y cb cr : List ℕ) → s .depth ≤ 12
     → length y ≡ samplesOf s Y → length cb ≡ samplesOf s CbCr → length cr ≡ samplesOf s CbCr → Lows (s .depth) (y ∷ cb ∷ cr ∷ []) → Frame s y cb cr
@@ -139,10 +139,10 @@ denoise-frame-call s y cb cr toY toCb toCr e =
 
 pub record GateCall (s : Shape) (component : Component) (a b c d : List ℕ) : Type 0 where
   pub shape : Known s
-  pub first : Plane (samplesOf s component) (s .depth) a
-  pub second : Plane (samplesOf s component) (s .depth) b
-  pub third : Plane (samplesOf s component) (s .depth) c
-  pub fourth : Plane (samplesOf s component) (s .depth) d
+  pub first : LowPlane (samplesOf s component) (s .depth) a
+  pub second : LowPlane (samplesOf s component) (s .depth) b
+  pub third : LowPlane (samplesOf s component) (s .depth) c
+  pub fourth : LowPlane (samplesOf s component) (s .depth) d
 
 pub gate-call : (s : Shape) (component : Component) (a b c d : List ℕ) → gateRefusal s component a b c d ≡ 0 → GateCall s component a b c d
 unfolding gateRefusal gateNumbers shapeNumbers

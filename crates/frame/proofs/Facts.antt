@@ -10,23 +10,30 @@ use lib.Dec.{leb, eqb}
 use lib.ListN.{length, getD}
 use lib.Pow.{pow-mono}
 use borrow.Author.Tests.{leb-true, eqb-true}
-use Rattle.laws.specs.Limits.{sideLimit}
+use Rattle.laws.specs.Limits.{sideLimit, sampleLimit}
 use Rattle.frame.specs.declared.Shape.{Shape}
 use Rattle.frame.specs.Questions.{firstNo, small, depthKnown, each, low, allLow}
 use Rattle.frame.specs.Calls.{shapeNumbers}
+use Rattle.frame.specs.Planes.{widthOf, heightOf}
+use Rattle.frame.specs.declared.view.Component.the-variants.{CbCr}
 use Rattle.frame.proofs.Refusal.{passed}
+use Rattle.frame.proofs.Size.{width-le, height-le}
 use Rattle.frame.proofs.Samples.{low-below}
 
 -- ---- the questions
 
-pub record Small (w h : ℕ) : Type 0 where
+pub record Sides (w h : ℕ) : Type 0 where
   pub wide : w ≤ sideLimit
   pub high : h ≤ sideLimit
 
-pub is-small : (w h : ℕ) → small w h .0 ≡ true → Small w h
+pub is-small : (w h : ℕ) → small w h .0 ≡ true → Sides w h
 is-small w h e =
     let p = and-eq-true-iff (leb w sideLimit) (leb h sideLimit) .0 e in
     record { wide = leb-true w sideLimit (p .0); high = leb-true h sideLimit (p .1) }
+
+-- chroma's sides are no longer than luma's
+pub chroma-sides : (s : Shape) → Sides (s .width) (s .height) → Sides (widthOf s CbCr) (heightOf s CbCr)
+chroma-sides s h = record { wide = width-le s CbCr (h .wide); high = height-le s CbCr (h .high) }
 
 pub record Depth (d : ℕ) : Type 0 where
   pub one-of : (d ≡ 8) ⊎ ((d ≡ 10) ⊎ (d ≡ 12))
@@ -49,7 +56,7 @@ is-depth d e =
     record { one-of = o; least = within d o .0; most = within d o .1 }
 
 pub record Known (s : Shape) : Type 0 where
-  pub size : Small (s .width) (s .height)
+  pub size : Sides (s .width) (s .height)
   pub columns : 1 ≤ s .width
   pub rows : 1 ≤ s .height
   pub depth : Depth (s .depth)
@@ -81,15 +88,15 @@ are-each n (l ∷ ls) e =
     (eqb-true l n (p .0), are-each n ls (p .1))
 
 -- a plane of n samples, each below 2^depth
-pub record Plane (n depth : ℕ) (xs : List ℕ) : Type 0 where
+pub record LowPlane (n depth : ℕ) (xs : List ℕ) : Type 0 where
   pub samples : length xs ≡ n
   pub below : (i : ℕ) → getD xs i 0 < 2 ^ depth
-  pub below-12 : (i : ℕ) → getD xs i 0 < 2 ^ 12
+  pub below-limit : (i : ℕ) → getD xs i 0 < sampleLimit
 
-pub is-plane : (n depth : ℕ) (xs : List ℕ) → depth ≤ 12 → length xs ≡ n → low depth xs ≡ true → Plane n depth xs
+pub is-plane : (n depth : ℕ) (xs : List ℕ) → depth ≤ 12 → length xs ≡ n → low depth xs ≡ true → LowPlane n depth xs
 is-plane n depth xs d l e =
     let f = low-below depth xs e in
-    record { samples = l; below = f; below-12 = λ i. lt-of-lt-of-le (f i) (pow-mono d) }
+    record { samples = l; below = f; below-limit = λ i. lt-of-lt-of-le (f i) (pow-mono d) }
 
 -- each plane passes
 abbrev pub Lows : ℕ → List (List ℕ) → Type 0

@@ -8,7 +8,7 @@ use Rattle.frame.specs.declared.Shape.{Shape}
 use Rattle.frame.specs.declared.view.Component.{Component}
 use Rattle.frame.specs.declared.view.Component.the-variants.{Y, CbCr}
 use Rattle.frame.proofs.Size.{width-le, height-le}
-use Rattle.frame.proofs.Facts.{Known, Plane}
+use Rattle.frame.proofs.Facts.{Known, LowPlane}
 use Rattle.frame.proofs.Accepted.{FrameCall, frame-call, fit-call}
 use Rattle.noise.specs.Lines as lines
 use Rattle.noise.specs.Seen.{Seen, SeenFrame}
@@ -16,16 +16,16 @@ use Rattle.noise.proofs.Seen.{seen-all}
 use Rattle.noise.proofs.Over.{shape-over}
 
 -- a plane and its copy of one size, whose samples are low
-pub plane-of : (w h depth : ℕ) (source denoised : List ℕ) → Plane (w * h) depth source → Plane (w * h) depth denoised → lines.Plane w h source denoised
+pub plane-of : (w h depth : ℕ) (source denoised : List ℕ) → LowPlane (w * h) depth source → LowPlane (w * h) depth denoised → lines.Plane w h source denoised
 plane-of w h depth source denoised P Q = record {
   source-size = P .samples;
   denoised-size = Q .samples;
-  source-low = λ i l. P .below-12 i;
-  denoised-low = λ i l. Q .below-12 i;
+  source-low = λ i l. P .below-limit i;
+  denoised-low = λ i l. Q .below-limit i;
 }
 
 -- a component of an accepted shape
-pub plane-seen : (s : Shape) (component : Component) {source denoised : List ℕ} → Known s → Plane (samplesOf s component) (s .depth) source → Plane (samplesOf s component) (s .depth) denoised
+pub plane-seen : (s : Shape) (component : Component) {source denoised : List ℕ} → Known s → LowPlane (samplesOf s component) (s .depth) source → LowPlane (samplesOf s component) (s .depth) denoised
     → Seen (viewOf s component) source denoised
 plane-seen s component K P Q =
     seen-all (plane-of (widthOf s component) (heightOf s component) (s .depth) _ _ P Q) (width-le s component (K .size .wide)) (height-le s component (K .size .high))

@@ -7,12 +7,11 @@ use Rattle.frame.specs.Planes.{widthOf, heightOf, samplesOf, viewOf}
 use Rattle.frame.specs.Calls.{pairRefusal, gateRefusal}
 use Rattle.frame.specs.declared.Shape.{Shape}
 use Rattle.frame.specs.declared.view.Component.{Component}
-use Rattle.frame.proofs.Facts.{Known, Plane}
-use Rattle.frame.proofs.Size.{width-le, height-le}
+use Rattle.frame.proofs.Facts.{LowPlane}
 use Rattle.frame.proofs.Accepted.{pair-call, gate-call}
 use Rattle.noise.specs.Noise.{pair}
 use Rattle.noise.specs.Seen.{seen, Seen}
-use Rattle.noise.proofs.Accepted.{plane-of}
+use Rattle.noise.proofs.Accepted.{plane-of, plane-seen}
 use Rattle.noise.proofs.Seen.{seen-all, seen-whole}
 
 -- ---- a lone plane and its copy
@@ -25,20 +24,17 @@ module _ (w h depth : ℕ) (a b : List ℕ) (e : pairRefusal w h depth a b ≡ 0
 
 -- ---- a plane of an accepted shape and its copy
 module _ (s : Shape) (component : Component) where
-  module _ {a b : List ℕ} (p : Plane (samplesOf s component) (s .depth) a) (q : Plane (samplesOf s component) (s .depth) b) where
-    pub shape-seen : Known s → Seen (viewOf s component) a b
-    shape-seen k = seen-all (plane-of _ _ _ a b p q) (width-le s component (k .size .wide)) (height-le s component (k .size .high))
-
-    pub shape-whole : seen (viewOf s component) a b ≡ pair a b (widthOf s component) (heightOf s component)
-    shape-whole = seen-whole (plane-of _ _ _ a b p q)
+  shape-whole : {a b : List ℕ} → LowPlane (samplesOf s component) (s .depth) a → LowPlane (samplesOf s component) (s .depth) b
+      → seen (viewOf s component) a b ≡ pair a b (widthOf s component) (heightOf s component)
+  shape-whole p q = seen-whole (plane-of _ _ _ _ _ p q)
 
   -- a gate: the planes of the first frame, and of the second
   module _ (a b c d : List ℕ) (e : gateRefusal s component a b c d ≡ 0) where
     pub first-seen : Seen (viewOf s component) a b
-    first-seen = let k = gate-call s component a b c d e in shape-seen (k .first) (k .second) (k .shape)
+    first-seen = let k = gate-call s component a b c d e in plane-seen s component (k .shape) (k .first) (k .second)
 
     pub second-seen : Seen (viewOf s component) c d
-    second-seen = let k = gate-call s component a b c d e in shape-seen (k .third) (k .fourth) (k .shape)
+    second-seen = let k = gate-call s component a b c d e in plane-seen s component (k .shape) (k .third) (k .fourth)
 
     pub first-whole : seen (viewOf s component) a b ≡ pair a b (widthOf s component) (heightOf s component)
     first-whole = let k = gate-call s component a b c d e in shape-whole (k .first) (k .second)

@@ -10,10 +10,10 @@ use Rattle.frame.specs.declared.Shape.{Shape}
 use Rattle.frame.specs.declared.view.View.{View}
 use Rattle.frame.specs.declared.view.Component.the-variants.{Y, CbCr}
 use Rattle.frame.proofs.Accepted.{pair-call, frame-call}
-use Rattle.frame.proofs.Facts.{Small, Depth, Plane}
+use Rattle.frame.proofs.Facts.{Sides, chroma-sides, Depth, LowPlane}
 use Rattle.frame.proofs.Refusal.{refused, granted}
 use Rattle.noise.proofs.Seen.{seen-all}
-use Rattle.noise.proofs.Accepted.{plane-of, chroma-small}
+use Rattle.noise.proofs.Accepted.{plane-of}
 use Rattle.profile.specs.Steps.{planeSigma16, profile}
 use Rattle.profile.specs.Answers.{sigmaOf, noSigma, sigmaAnswer, lumaProfile, chromaProfile, estimateOf, noEstimate, estimateAnswer}
 use Rattle.profile.specs.Runs.{SeenAt, Profiled}
@@ -29,7 +29,7 @@ module _ {A : Type 0} (value : A) (none : ℕ → A) {n m : ℕ} (e : n ≡ m) w
   answer-granted : n ≡ 0 → value ≡ accepted m value (none m)
   answer-granted z = sym (granted m value (none m) (sym e ∙ z))
 
-seen-at : (w h : ℕ) {depth : ℕ} {source denoised : List ℕ} → Small w h → Depth depth → Plane (w * h) depth source → Plane (w * h) depth denoised
+seen-at : (w h : ℕ) {depth : ℕ} {source denoised : List ℕ} → Sides w h → Depth depth → LowPlane (w * h) depth source → LowPlane (w * h) depth denoised
     → SeenAt depth (whole w h) source denoised
 seen-at w h {depth} {source} {denoised} S d p q =
     record {
@@ -84,5 +84,5 @@ module _ (s : Shape) (y cb cr y-denoised cb-denoised cr-denoised : List ℕ) {n 
     estimate-seen =
         let f = frame-call s y cb cr y-denoised cb-denoised cr-denoised (sym e ∙ z) in
         let d = f .shape .depth in
-        let k = chroma-small (s .format) (s .width) (s .height) (f .shape .size) in
+        let k = chroma-sides s (f .shape .size) in
         rw (l, c) (seen-at _ _ (f .shape .size) d (f .source .y) (f .copy .y), seen-at _ _ k d (f .source .cb) (f .copy .cb), seen-at _ _ k d (f .source .cr) (f .copy .cr))

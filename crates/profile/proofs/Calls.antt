@@ -13,12 +13,11 @@ use Rattle.frame.specs.declared.Shape.{Shape}
 use Rattle.frame.specs.declared.view.Component.the-variants.{CbCr}
 use Rattle.frame.specs.Size.{chromaWidth, chromaHeight}
 use Rattle.frame.specs.Calls.{pairRefusal, frameRefusal}
-use Rattle.frame.proofs.Facts.{Small, Depth, Plane}
+use Rattle.frame.proofs.Facts.{Sides, Depth, LowPlane, chroma-sides}
 use Rattle.frame.proofs.Size.{area-le}
 use Rattle.frame.proofs.Viewed.{viewed-whole}
 use Rattle.frame.proofs.Accepted.{pair-call, frame-call}
 use Rattle.frame.proofs.Refusal.{refused, granted}
-use Rattle.noise.proofs.Accepted.{chroma-small}
 use Rattle.float.specs.Steps.{sigma16Of}
 use Rattle.profile.specs.Steps.{planeSigma16, totals, sigmaOfBin, profile}
 use Rattle.profile.specs.Answers.{sigmaOf, sigmaAnswer, chromaOf, noProfile, lumaProfile, chromaProfile, estimateOf, noEstimate, estimateAnswer}
@@ -27,7 +26,7 @@ use Rattle.profile.specs.declared.NoiseEstimate.{NoiseEstimate}
 use Rattle.profile.proofs.AsWorded.{plane-in-words, in-words}
 
 -- the samples of a plane and its copy, as an accepted call has them
-low : {w h depth : ℕ} {a b : List ℕ} → Small w h → Depth depth → Plane (w * h) depth a → Plane (w * h) depth b → LowSamples depth a b
+low : {w h depth : ℕ} {a b : List ℕ} → Sides w h → Depth depth → LowPlane (w * h) depth a → LowPlane (w * h) depth b → LowSamples depth a b
 low S d p q =
     record {
       least-depth = d .least;
@@ -74,7 +73,7 @@ module _ (s : Shape) (y cb cr y-denoised cb-denoised cr-denoised : List ℕ) whe
       let c = frame-call s y cb cr y-denoised cb-denoised cr-denoised e in
       let d = c .shape .depth in
       let luma = c .shape .size in
-      let chroma = chroma-small (s .format) (s .width) (s .height) luma in
+      let chroma = chroma-sides s luma in
       record {
         y-profile = profile 3 64 (s .depth - 8) y y-denoised;
         cb-profile = profile 2 32 (s .depth - 8) cb cb-denoised;

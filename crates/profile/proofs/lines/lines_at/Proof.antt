@@ -11,7 +11,7 @@ use mir.Val.{ofZ, toZ}
 use Rattle.laws.proofs.Is.{Is, fits, again}
 use Rattle.laws.proofs.Fill.{Filled, fill-starts, fill-turn, fill-ends}
 use Rattle.noise.specs.Shift.{shifted}
-use Rattle.noise.proofs.Lines.{source-in, denoised-in, source-fits, denoised-fits, noise-is}
+use Rattle.noise.proofs.Lines.{low-at, noise-is}
 use Rattle.noise.proofs.Shift.{small-fits, shift-is}
 use Rattle.profile.specs.Shifted.{shiftedNoise}
 use Rattle.profile.proofs.lines.lines_at.Statement.{statement}
@@ -29,7 +29,7 @@ loop-holds c = (fill-starts _ _, fill-starts _ _)
 
 -- in a turn, the place lies in the plane
 in-plane : (c : tie.In-loop Inv-loop μ-loop) → let A = c .before .before .args in A .start + c .before .loop .i * A .stride < length (A .src .now)
-in-plane c = source-in (c .before .before .pre .places) (c .loop-test .taken)
+in-plane c = low-at (c .before .before .pre .places) (c .loop-test .taken) .in-source
 
 mul-k : tie.Need-mul-k Inv-loop μ-loop
 mul-k c = omega (arith, in-plane c)
@@ -47,16 +47,16 @@ mul-y : tie.Need-mul-y Inv-loop μ-loop
 mul-y c = omega (arith, in-plane (c .before))
 
 shared-slice-read-y : tie.Need-shared-slice-read-y Inv-loop μ-loop
-shared-slice-read-y c = denoised-in (c .before .before .before .before .pre .places) (c .before .before .loop-test .taken)
+shared-slice-read-y c = low-at (c .before .before .before .before .pre .places) (c .before .before .loop-test .taken) .in-denoised
 
 cast-d : tie.Need-cast-d Inv-loop μ-loop
-cast-d c = source-fits (c .before .before .before .before .pre .places) (c .before .before .loop-test .taken)
+cast-d c = omega (arith, low-at (c .before .before .before .before .pre .places) (c .before .before .loop-test .taken) .source-low)
 
 cast-d-2 : tie.Need-cast-d-2 Inv-loop μ-loop
-cast-d-2 c = denoised-fits (c .before .before .before .before .pre .places) (c .before .before .loop-test .taken)
+cast-d-2 c = omega (arith, low-at (c .before .before .before .before .pre .places) (c .before .before .loop-test .taken) .denoised-low)
 
 sub-d : tie.Need-sub-d Inv-loop μ-loop
-sub-d c = fits (noise-is (c .before .before .before .before .pre .places) (c .before .before .loop-test .taken))
+sub-d c = fits (noise-is (low-at (c .before .before .before .before .pre .places) (c .before .before .loop-test .taken)))
 
 cast-line : tie.Need-cast-line Inv-loop μ-loop
 cast-line c = small-fits (c .before .before .before .before .pre .shift-small)
@@ -70,7 +70,7 @@ loop-again c =
     let S = c .before .before .before .before in
     let H = c .before .before .before .loop in
     let l = c .before .before .loop-test .taken in
-    (fill-turn _ _ _ (H .inv .0) l (again (moved (S .args .shift) (noise-is (S .pre .places) l)) .eq), fill-turn _ _ _ (H .inv .1) (search needs) refl)
+    (fill-turn _ _ _ (H .inv .0) l (again (moved (S .args .shift) (noise-is (low-at (S .pre .places) l))) .eq), fill-turn _ _ _ (H .inv .1) (search needs) refl)
 
 returns : tie.Need-returns Inv-loop μ-loop
 returns c =
