@@ -1,6 +1,6 @@
 -- How large the sums of a fit are: every one is a whole number, or one of quarters or of sixteenths, that an f64 holds. Assumes nothing.
 use mathlib.Core.List.{List}
-use Prim.Native.Nat.{ℕ, _+_, _-_, _*_, _^_, _≤_, _<_}
+use Prim.Native.Nat.{ℕ, _-_, _*_, _^_, _≤_, _<_}
 use native.Mathlib.Nat.{le-trans, mul-le-mul, le-refl}
 use native.Mathlib.Omega.{arith}
 use lib.Dec.{lit≤}

@@ -9,7 +9,7 @@ use lib.Arith.{digits-lt, digits-div, digits-mod}
 use lib.Dec.{lit<}
 use lib.IntN.{ℤ, pos, natAbs, _+ℤ_, +ℤ-idr}
 use lib.ListN.{length}
-use Rattle.laws.specs.Sums.{total, sumTo}
+use Rattle.laws.specs.Sums.{total}
 use Rattle.laws.proofs.Sums.{sum-more, sum-bound}
 use Rattle.laws.proofs.Whole.{abs-add}
 use Rattle.laws.proofs.Order.{lt-or-ge}

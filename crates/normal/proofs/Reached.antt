@@ -17,7 +17,7 @@ use Rattle.laws.proofs.Order.{lt-or-ge}
 use Rattle.noise.specs.Lines.{at}
 use Rattle.noise.proofs.LineSums.{entry, size}
 use Rattle.normal.proofs.Overlaps.{kept}
-use Rattle.normal.proofs.Stored.{Stored, stored, part, part-length}
+use Rattle.normal.proofs.Stored.{Stored, stored}
 
 -- a list is the table of its entries
 pub table-is : (l : List ℤ) (n : ℕ) (f : ℕ → ℤ) → length l ≡ n → ((i : ℕ) → i < n → at l i ≡ f i) → l ≡ tabulate n f

@@ -13,17 +13,23 @@ use Rattle.normal.specs.Blocks.{Zeros}
 
 -- ---- at lags up to 3
 module _ {lag : ℕ} (h : lag ≤ 3) where
-  pub starts-le : lag + 1 ≤ 4
+  starts-le : lag + 1 ≤ 4
   starts-le = omega arith
 
-  pub side-le : side lag ≤ 7
+  side-le : side lag ≤ 7
   side-le = omega arith
 
-  pub tables-le : (lag + 1) * (side lag * side lag) ≤ 196
-  tables-le = mul-le-mul starts-le (mul-le-mul side-le side-le)
+  pub starts-few : (lag + 1) * (lag + 1) ≤ 16
+  starts-few = mul-le-mul starts-le starts-le
 
-  pub sums-le : sumsSize lag ≤ 784
-  sums-le = mul-le-mul (mul-le-mul starts-le starts-le) (mul-le-mul side-le side-le)
+  pub sides-few : side lag * side lag ≤ 49
+  sides-few = mul-le-mul side-le side-le
+
+  pub tables-few : (lag + 1) * (side lag * side lag) ≤ 196
+  tables-few = mul-le-mul starts-le sides-few
+
+  pub sums-few : sumsSize lag ≤ 784
+  sums-few = mul-le-mul starts-few sides-few
 
 -- ---- zeros
 pub zeros-table : {l : List ℤ} (n : ℕ) → l ≡ tabulate n (λ i. pos 0) → Zeros n l

@@ -20,7 +20,6 @@ use Rattle.normal.specs.Normal.{Picture}
 use Rattle.normal.specs.Starts.{startSum, Noisy}
 use Rattle.normal.specs.Blocks.{Addable}
 use Rattle.normal.specs.Taps.{tapOf, rowTap, plusTaps, TapRow, TapAdd}
-use Rattle.normal.proofs.Stored.{part, part-length}
 use Rattle.normal.proofs.Places.{row-end}
 use Rattle.normal.proofs.Overlaps.{start-ext}
 use Rattle.normal.proofs.Reached.{Reached, reached-starts, reached-ends, part-long}

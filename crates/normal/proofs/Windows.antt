@@ -1,16 +1,16 @@
 -- Sums over a fit's window: how large they are, the sample as its own last neighbour, two factors exchanged, and the window as rows lag to h and columns lag to w - lag. Assumes nothing.
-use mathlib.Core.Path.{_≡_, refl, ap, _∙_}
+use mathlib.Core.Path.{_≡_, ap, _∙_}
 use Prim.Native.Nat.{ℕ, _+_, _-_, _*_, _/_, _%_, _≤_, _<_}
 use native.Mathlib.Nat.{lt-of-lt-of-le, div-lt-iff-lt-mul, mod-lt}
 use native.Mathlib.Omega.{arith}
 use lib.Arith.{digits-div, digits-mod}
-use lib.IntN.{ℤ, natAbs, _*ℤ_, *ℤ-comm}
+use lib.IntN.{natAbs, _*ℤ_, *ℤ-comm}
 use Rattle.laws.specs.Sums.{sumTo, span}
 use Rattle.laws.proofs.Sums.{sum-ext, sum-bound}
 use Rattle.laws.proofs.Whole.{abs-mul-le}
 use Rattle.positions.specs.Counts.{side, neighbours, factors}
 use Rattle.positions.proofs.Counts.{factors-le, factors-rows}
-use Rattle.normal.specs.Normal.{Picture, neighbour, windowSum, entry}
+use Rattle.normal.specs.Normal.{Picture, neighbour, windowSum}
 use Rattle.normal.specs.Calls.{Window}
 use Rattle.normal.specs.Starts.{startSum}
 

@@ -1,12 +1,9 @@
 -- `normal::neighbours::neighbour_sums` meets its contract: at lags up to 3 the lines and tables have room, and the sums of pairs of rows are those of neighbours. Assumes nothing.
-use mathlib.Core.Path.{sym, _∙_}
-use Prim.Native.Nat.{ℕ, _≤_}
+use mathlib.Core.Path.{sym}
 use native.Mathlib.Nat.{le-trans}
 use native.Mathlib.Omega.{arith}
-use lib.ListN.{length}
 use lib.Seq.{length-take-le}
-use Rattle.normal.specs.Calls.{NeighbourRoom}
-use Rattle.normal.proofs.Sizes.{tables-le}
+use Rattle.normal.proofs.Sizes.{tables-few}
 use Rattle.normal.proofs.Entries.{window-plot, sums-seen}
 use borrow.Author.Needs.{needs}
 use Rattle.normal.proofs.neighbours.neighbour_sums.Statement.{statement}
@@ -19,7 +16,7 @@ slice-aggregate-pass-rows-2 : tie.Need-slice-aggregate-pass-rows-2
 slice-aggregate-pass-rows-2 c = let T = c .before .before .before .before .before .before .before in sym (length-take-le (T .before .before .before .before .args .view .width) (T .blank-line2 .result) (search needs))
 
 array-borrow-prefix-tables : tie.Need-array-borrow-prefix-tables
-array-borrow-prefix-tables c = le-trans (tables-le (c .before .before .before .before .before .before .before .before .before .before .before .pre .window .few)) (search needs)
+array-borrow-prefix-tables c = le-trans (tables-few (c .before .before .before .before .before .before .before .before .before .before .before .pre .window .few)) (search needs)
 
 slice-aggregate-pass-rows-3 : tie.Need-slice-aggregate-pass-rows-3
 slice-aggregate-pass-rows-3 c = sym (length-take-le _ (c .before .before .before .before .before .before .before .blank-tables .result) (array-borrow-prefix-tables (c .before)))

@@ -1,11 +1,9 @@
 -- `normal::rows::pair_table` meets its contract: the lines hold the two rows. Assumes nothing.
 use mathlib.Core.Bool.{false≢true}
-use mathlib.Core.Path.{_≡_, refl, sym, ap, _∙_, subst}
-use Prim.Native.Nat.{ℕ, _+_, _-_, _*_}
+use mathlib.Core.Path.{_≡_, refl, ap, _∙_}
+use Prim.Native.Nat.{ℕ, _-_}
 use native.Mathlib.Omega.{arith}
-use Rattle.laws.specs.Limits.{sampleLimit}
 use Rattle.laws.specs.Table.{tabulate}
-use Rattle.noise.specs.Lines.{Places}
 use Rattle.noise.specs.Seen.{noiseAt}
 use Rattle.normal.specs.Starts.{startSum, byRows}
 use Rattle.normal.proofs.RowLines.{rows-strip, rows-table}

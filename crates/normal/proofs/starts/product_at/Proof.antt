@@ -1,5 +1,5 @@
 -- `normal::starts::product_at` meets its contract: two i16 and their product fit an i64. Assumes nothing.
-use lib.IntN.{ℤ, _*ℤ_}
+use lib.IntN.{_*ℤ_}
 use mir.Syntax.{w64}
 use Rattle.laws.proofs.Is.{Is, again, fits}
 use Rattle.noise.specs.Lines.{at}

@@ -1,6 +1,5 @@
 -- `normal::tap::average_squares` meets its contract: the line holds the averages, and their squares are summed. Assumes nothing.
-use mathlib.Core.Path.{_≡_, sym, ap, _∙_}
-use Prim.Native.Nat.{ℕ}
+use mathlib.Core.Path.{_≡_, _∙_}
 use Rattle.laws.specs.Table.{tabulate}
 use Rattle.noise.specs.Average.{lumaSeen, quarters}
 use Rattle.noise.proofs.Over.{average-row}

@@ -13,7 +13,6 @@ use Rattle.noise.specs.Lines.{at}
 use Rattle.noise.specs.Seen.{noiseAt}
 use Rattle.positions.specs.Counts.{side, factors}
 use Rattle.positions.proofs.Counts.{neighbours-le}
-use Rattle.normal.specs.Starts.{startSum}
 use Rattle.normal.proofs.Stored.{part-length}
 use Rattle.normal.proofs.TapRows.{Tapping, tapping-starts, tapping-ends, first-in, part-in, columns-in, part-end, tapping-turn, line-noisy, line-taps}
 use borrow.Author.Needs.{needs}
@@ -25,9 +24,6 @@ Inv-loop src den view y lag averages line₀ row₀ side n count u₀ u-end line
 
 abbrev μ-loop : tie.MeasureT-loop
 μ-loop src den view y lag averages line₀ row₀ side n count u₀ u-end line row u = u-end - u
-
-double : {lag : ℕ} → lag ≤ 3 → Fits w64 (2 * lag)
-double h = record { fits = omega arith }
 
 loop-holds : tie.Need-loop-holds Inv-loop μ-loop
 loop-holds c = let P = c .before .before .before .pre in (refl, P .line-length, omega arith, tapping-starts _ _ _ _ _ (P .row-length))

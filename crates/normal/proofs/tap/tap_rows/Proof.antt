@@ -1,12 +1,11 @@
 -- `normal::tap::tap_rows` meets its contract: the sums hold what the rows passed have added. Assumes nothing.
-use mathlib.Core.Path.{_≡_, refl, sym, ap, _∙_}
+use mathlib.Core.Path.{_≡_, sym, _∙_}
 use Prim.Native.Nat.{ℕ, _+_, _-_, _*_, _≤_, _<_, zero-le}
 use native.Mathlib.Nat.{le-antisymm}
 use native.Mathlib.Numerals.{add-one-le}
 use native.Mathlib.Omega.{arith}
 use borrow.Author.Count.{falls}
-use borrow.Author.Needs.{needs}
-use lib.IntN.{ℤ, _+ℤ_}
+use lib.IntN.{_+ℤ_}
 use lib.ListN.{length}
 use mir.Syntax.{w64}
 use mir.Val.{Fits, ofZ, toZ}
