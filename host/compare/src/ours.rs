@@ -3,7 +3,7 @@
 use crate::calls::Words;
 use crate::input::{Input, Planes};
 use crate::rust::STEPS;
-use crate::words::{coefficients, float, solution, whole};
+use crate::words::{coefficients, float, positions, solution, whole};
 use grain::{Chroma, Format, Frame, Pair, Profile, RandomRegister, Refusal, Shape, TwoFrames};
 use oracle::YuvFrame;
 
@@ -80,11 +80,7 @@ pub fn fit_chroma_corr(input: &Input, _: &mut Planes) -> Result<Words, Refusal> 
 }
 
 pub fn ar_positions(input: &Input, _: &mut Planes) -> Result<Words, Refusal> {
-    let places = grain::ar_positions(input.number as usize)?;
-    Ok(places
-        .iter()
-        .flat_map(|&(r, c)| [whole(r), whole(c)])
-        .collect())
+    Ok(positions(grain::ar_positions(input.number as usize)?))
 }
 
 pub fn fit_ar_lag(input: &Input, _: &mut Planes) -> Result<Words, Refusal> {
