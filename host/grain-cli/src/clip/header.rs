@@ -71,12 +71,7 @@ impl Header {
         }
         Ok(Header {
             line: line.to_vec(),
-            shape: Shape {
-                width,
-                height,
-                depth,
-                format,
-            },
+            shape: Shape::new(width, height, depth, format),
             interlaced,
         })
     }
@@ -96,14 +91,4 @@ fn side(name: &str, word: &str, value: &str) -> Result<usize> {
     value
         .parse()
         .with_context(|| format!("the header's {name} isn't a number: {word:?}"))
-}
-
-/// "4:2:0" and the like.
-pub fn format_name(format: Format) -> &'static str {
-    match format {
-        Format::Monochrome => "mono",
-        Format::Yuv420 => "4:2:0",
-        Format::Yuv422 => "4:2:2",
-        Format::Yuv444 => "4:4:4",
-    }
 }
