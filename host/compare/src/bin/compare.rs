@@ -67,32 +67,17 @@ impl Count {
     }
 }
 
-fn differs(case: &Case) -> bool {
-    !Comparison::new(case).agrees()
-}
-
 /// Compares one case and counts it; false where the two differ.
 fn compared(case: &Case, counts: &mut [Count]) -> bool {
     let found = Comparison::new(case);
     let at = CALLS.iter().position(|call| call.name == case.call.name);
-    counts[at.expect("a call of the table")].add(&Count {
-        compared: 1,
-        zero: u64::from(found.due.is_zero()),
-        refused: found
-            .due
-            .answer
-            .as_ref()
-            .err()
-            .map(|&number| (number, 1))
-            .into_iter()
-            .collect(),
-    });
+    let count = &mut counts[at.expect("a call of the table")];
+    count.compared += 1;
+    count.zero += u64::from(found.due.is_zero());
+    if let Err(number) = found.due.answer {
+        *count.refused.entry(number).or_default() += 1;
+    }
     found.agrees()
-}
-
-/// Both outcomes of a case.
-fn show(case: &Case) {
-    println!("{}", Comparison::new(case));
 }
 
 fn report(counts: &[Count]) {
@@ -162,18 +147,16 @@ fn main() -> ExitCode {
         }
     };
     if let Some(case) = &options.case {
-        println!("{case}");
-        show(case);
-        return ExitCode::from(u8::from(differs(case)));
+        let found = Comparison::new(case);
+        println!("{case}\n{found}");
+        return ExitCode::from(u8::from(!found.agrees()));
     }
     println!("seed {}, {} drawn cases", options.seed, options.calls);
     let (counts, different) = run(&options);
     if let Some(case) = different {
-        println!("differs: {case}");
-        show(&case);
-        let least = case.shrunk(differs);
-        println!("shrunk to: {least}");
-        show(&least);
+        println!("differs: {case}\n{}", Comparison::new(&case));
+        let least = case.shrunk(|case| !Comparison::new(case).agrees());
+        println!("shrunk to: {least}\n{}", Comparison::new(&least));
         println!("again: cargo run --release --bin compare -- --case {least}");
         return ExitCode::FAILURE;
     }
