@@ -1,6 +1,9 @@
 use crate::{Refusal, sys};
 use std::fmt;
 
+/// Width and height are at most this.
+pub const SIDE_LIMIT: usize = 4096;
+
 /// Which chroma planes a frame has.
 #[derive(Debug, Clone, Copy, PartialEq, Eq, Hash)]
 #[repr(u8)]

@@ -42,7 +42,7 @@ pub use denoise::{denoise_frame, denoise_plane};
 pub use fit::{
     ArFit, ChromaCorr, ar_positions, fit_ar_lag, fit_chroma_corr, quant_ar, solve_normal,
 };
-pub use frame::{Chroma, Format, Frame, Shape};
+pub use frame::{Chroma, Format, Frame, SIDE_LIMIT, Shape};
 pub use gate::{chroma_noise_gate, film_grain_probe, lag_h_rho};
 pub use pair::{Pair, ShapeMismatch, TwoFrames};
 pub use profile::{Bin, NoiseEstimate, Profile, noise_estimate, plane_sigma16};

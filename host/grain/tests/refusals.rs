@@ -50,7 +50,7 @@ fn accepted() {
 #[test]
 fn numbers_of_a_shape() {
     let of = |width, height, depth| Shape::new(width, height, depth, Format::Yuv420);
-    for width in [4097, usize::MAX] {
+    for width in [SIDE_LIMIT + 1, usize::MAX] {
         refused(of(width, 2, 8), Refusal::SideAbove4096);
     }
     refused(of(3, 0, 8), Refusal::EmptyFrame);
@@ -64,7 +64,7 @@ fn numbers_of_a_shape() {
 #[test]
 fn order_of_questions() {
     let of = |width, height| Shape::new(width, height, 9, Format::Yuv420);
-    refused(of(4097, 0), Refusal::SideAbove4096);
+    refused(of(SIDE_LIMIT + 1, 0), Refusal::SideAbove4096);
     refused(of(1, 0), Refusal::EmptyFrame);
     refused(of(1, 1), Refusal::Depth);
 }
@@ -74,7 +74,7 @@ fn planes() {
     let mut planes = [7; 5];
     let short = denoise_plane(&[9; 6], &mut planes, 3, 2);
     assert_eq!((short, planes), (Err(Refusal::PlaneLength), [7; 5]));
-    assert_eq!(denoise_plane(&[], &mut [], 0, 4096), Ok(()));
+    assert_eq!(denoise_plane(&[], &mut [], 0, SIDE_LIMIT), Ok(()));
 
     let high = Frame::new(SHAPE, FRAME.y, FRAME.cb, &[9, 256]);
     let pair = pair(FRAME, high);

@@ -1,5 +1,5 @@
 use anyhow::{Context, Result, bail};
-use grain::{Format, Refusal, Shape};
+use grain::{Format, Refusal, SIDE_LIMIT, Shape};
 
 /// The word that begins a clip.
 pub const MAGIC: &str = "YUV4MPEG2";
@@ -61,13 +61,12 @@ impl Header {
             let names = COLOUR_SPACES.map(|(name, ..)| name).join(", ");
             bail!("the header has the colour space C{space}, which isn't read. These are: {names}");
         };
-        let failed = match (width.min(height), width.max(height)) {
-            (_, 4097..) => Some(Refusal::SideAbove4096),
-            (0, _) => Some(Refusal::EmptyFrame),
-            _ => None,
-        };
-        if let Some(refusal) = failed {
-            bail!("the frames are {width}×{height}. {refusal}");
+        let refuse = |refusal| bail!("the frames are {width}×{height}. {refusal}");
+        if width.max(height) > SIDE_LIMIT {
+            return refuse(Refusal::SideAbove4096);
+        }
+        if width.min(height) == 0 {
+            return refuse(Refusal::EmptyFrame);
         }
         Ok(Header {
             line: line.to_vec(),
