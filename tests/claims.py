@@ -5,11 +5,11 @@ A citation stands in backquotes: `CRATE/FILE` or `CRATE/FILE:NAME`, where FILE i
 with src/, specs/, proofs/ or must-fail/, and NAME is declared in that file. A citation that begins with docs/, tests/,
 oracle/, host/ or include/ is a path of the repository, with or without a NAME that its text contains.
 Every function that a crate shows to other crates must be cited by name: each `pub fn` of its lib.rt and of the modules
-that lib.rt declares `pub mod`, each that lib.rt names in a `pub use`, the methods of a type that it names so, and each
-`pub extern "C" fn`; and each states what it returns.
+that lib.rt declares `pub mod`, each that lib.rt names in a `pub use`, each `pub extern "C" fn`, and the public methods of
+the types that it shows likewise; and each states what it returns.
 The section CALLS has a row for each public call, with two must-fail edits at least; every function of another crate that
 the crate `grain` calls has one. The section NEEDS lists the functions with a `requires`, a row for each crate: exactly
-those that have one, and none of them is a public call or stands in `grain`.
+those that have one. None of them is a public call, stands in `grain`, or is a method of a type that a crate shows.
 """
 import pathlib
 import re
@@ -18,8 +18,9 @@ import sys
 CITATION = re.compile(r'`([A-Za-z0-9_.\-/]+/[A-Za-z0-9_.\-/]+)(?::([^`\s]+))?`')
 PARTS = ('src', 'specs', 'proofs', 'must-fail')
 OTHER = ('docs', 'tests', 'oracle', 'host', 'include')
-PUBLIC = re.compile(r'^(\s*)pub (extern "C" )?fn (\w+)', re.M)
+PUBLIC = re.compile(r'^\s*pub (extern "C" )?fn (\w+)', re.M)
 FUNCTION = re.compile(r'^\s*(?:pub )?(?:extern "C" )?fn (\w+)', re.M)
+METHODS = re.compile(r'^impl(?:<[^>]*>)? (\w+).*?^}', re.M | re.S)
 CALLS = '## Two wrong programs for each public call'
 NEEDS = '## Functions with a `requires`'
 
@@ -33,26 +34,36 @@ def declares(path, text, name):
     return re.search(head, text, re.M) is not None
 
 
-def public(source):
-    """The functions that a crate's folder src/ shows to other crates."""
-    root = source / 'lib.rt'
-    if not root.is_file():
-        return
-    shown = root.read_text()
-    for path in sorted(source.rglob('*.rt')):
-        whole = path == root or re.search(rf'^pub mod {path.stem};', shown, re.M)
-        used = set(re.findall(rf'^pub use {path.stem}::(\w+);', shown, re.M))
-        text = path.read_text()
-        types = set(re.findall(r'^impl (\w+)', text, re.M)) & used
-        for indent, extern, name in PUBLIC.findall(text):
-            if whole or extern or name in used or (indent.strip('\n') and types):
-                yield name
+class Crate:
+    """The folder src/ of a crate, and what of it other crates see."""
+
+    def __init__(self, source):
+        self.name = source.parent.name
+        files = {path: path.read_text() for path in sorted(source.rglob('*.rt'))}
+        root = files.get(source / 'lib.rt', '')
+        modules = set(re.findall(r'^pub mod (\w+);', root, re.M))
+        self.texts = list(files.values())
+        # The files of which every `pub` name is shown, and the names of the others that are.
+        self.whole = [text for path, text in files.items() if text is root or path.stem in modules]
+        self.used = set(re.findall(r'^pub use [\w:]+::(\w+);', root, re.M))
+        types = self.used.union(*(re.findall(r'^pub (?:struct|enum) (\w+)', text, re.M) for text in self.whole))
+        # The `impl` blocks of the types that are shown.
+        self.methods = [block.group() for text in self.texts for block in METHODS.finditer(text) if block.group(1) in types]
+
+    def public(self):
+        """The functions that are shown."""
+        for text in self.texts:
+            for extern, name in PUBLIC.findall(METHODS.sub('', text)):
+                if text in self.whole or extern or name in self.used:
+                    yield name
+        for block in self.methods:
+            yield from (name for _, name in PUBLIC.findall(block))
 
 
-def having(source, clause):
-    """The functions of a crate's folder src/ that have a `requires`, or an `ensures`."""
-    for path in sorted(source.rglob('*.rt')):
-        parts = FUNCTION.split(path.read_text())
+def having(clause, texts):
+    """The functions of these texts that have a `requires`, or an `ensures`."""
+    for text in texts:
+        parts = FUNCTION.split(text)
         for name, rest in zip(parts[1::2], parts[2::2]):
             if re.search(rf'^\s*{clause} \{{', rest, re.M):
                 yield name
@@ -65,9 +76,9 @@ def rows(text, heading):
     return [[cell.strip() for cell in line.strip('|').split('|')] for line in lines[1:]]
 
 
-def preconditions(root, text):
+def preconditions(crates, text):
     """What is wrong with the sections CALLS and NEEDS, a line each."""
-    needs = {(s.parent.name, name) for s in root.glob('crates/*/src') for name in having(s, 'requires')}
+    needs = {(crate.name, name) for crate in crates for name in having('requires', crate.texts)}
     listed = {(row[0].strip('`'), name) for row in rows(text, NEEDS) for name in re.findall(r'`(\w+)`', row[1])}
     for crate, name in sorted(needs - listed):
         yield f'docs/CLAIMS.md: {name} of {crate} has a `requires`, and is not listed'
@@ -80,14 +91,17 @@ def preconditions(root, text):
         edits = {path for _, path, _ in citations(' '.join(row[1:])) if path.endswith('.edit')}
         if not made or len(edits) < 2:
             yield f'docs/CLAIMS.md: fewer than two edits, or no call: {row[0]}'
-    crates = {source.parent.name for source in root.glob('crates/*/src')}
-    for path in sorted(root.glob('crates/grain/src/*.rt')):
-        for crate, name in re.findall(r'\b(\w+)::(\w+)\(', path.read_text()):
-            if crate in crates and (crate, name) not in calls:
+    names = {crate.name for crate in crates}
+    for grain in (text for crate in crates if crate.name == 'grain' for text in crate.texts):
+        for crate, name in re.findall(r'\b(\w+)::(\w+)\(', grain):
+            if crate in names and (crate, name) not in calls:
                 yield f'docs/CLAIMS.md: no row for the call {name} of {crate}'
     for crate, name in sorted(needs):
         if crate == 'grain' or (crate, name) in calls:
             yield f'{name} of {crate} is a public call with a `requires`'
+    for crate in crates:
+        for name in having('requires', crate.methods):
+            yield f'{name} of {crate.name} is a method of a public type with a `requires`'
 
 
 def citations(text):
@@ -117,17 +131,17 @@ def problems(root):
             found.append(f'docs/CLAIMS.md:{line}: {path} does not contain {name}')
         elif name and crate not in OTHER and not declares(target, target.read_text(), name):
             found.append(f'docs/CLAIMS.md:{line}: {path} does not declare {name}')
-    for source in sorted(root.glob('crates/*/src')):
-        crate = source.parent.name
-        stated = set(having(source, 'ensures'))
-        for name in public(source):
+    crates = [Crate(source) for source in sorted(root.glob('crates/*/src'))]
+    for crate in crates:
+        stated = set(having('ensures', crate.texts))
+        for name in crate.public():
             if name not in stated:
-                found.append(f'{name}, a public function of {crate}, does not state what it returns')
-            if (crate, name) not in cited:
-                found.append(f'docs/CLAIMS.md: no row cites {name}, a public function of {crate}')
+                found.append(f'{name}, a public function of {crate.name}, does not state what it returns')
+            if (crate.name, name) not in cited:
+                found.append(f'docs/CLAIMS.md: no row cites {name}, a public function of {crate.name}')
     if count == 0:
         found.append('docs/CLAIMS.md: no citation found')
-    found.extend(preconditions(root, text))
+    found.extend(preconditions(crates, text))
     return found, count
 
 

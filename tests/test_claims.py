@@ -13,6 +13,10 @@ pub struct Shape {
     pub width: usize,
 }
 
+pub struct Reader<'a> {
+    samples: &'a [u16],
+}
+
 // One more.
 pub fn bump(x: u32) -> u32
     ensures { λ r. ⌜ r ≡ bumped x ⌝ }
@@ -25,6 +29,10 @@ fn own(x: u32) -> u32 {
 }
 '''
 INNER = '''pub struct Counter {
+    at: u32,
+}
+
+pub struct Inside {
     at: u32,
 }
 
@@ -46,6 +54,16 @@ pub fn kept_inside(x: u32) -> u32
     ensures { λ r. ⌜ r ≡ x ⌝ }
 {
     x
+}
+'''
+METHOD = '''
+impl%s {
+    fn held(self) -> u32
+        requires { ⌜ self .at < 10 ⌝ }
+        ensures { λ r. ⌜ r ≡ 10 ⌝ }
+    {
+        10
+    }
 }
 '''
 SPEC = '''-- One more.
@@ -138,6 +156,17 @@ class Claims(unittest.TestCase):
         listed = TABLES.replace('`kept_inside`', '`kept_inside`, `bump`')
         code = {'crates/one/src/lib.rt': CODE.replace('    ensures', '    requires { ⌜ x < 10 ⌝ }\n    ensures')}
         self.assertEqual(len(self.found(PUBLIC, listed, **code)), 1)
+
+    def test_function_of_grain_with_a_precondition(self):
+        listed = TABLES.replace('| `kept_inside` |', '| `kept_inside` |\n| `grain` | `grain_bump` |')
+        code = {'crates/grain/src/lib.rt': GRAIN.replace('    ensures', '    requires { ⌜ x < 10 ⌝ }\n    ensures')}
+        self.assertEqual(len(self.found(PUBLIC, listed, **code)), 1)
+
+    def test_method_with_a_precondition(self):
+        listed = TABLES.replace('`kept_inside`', '`kept_inside`, `held`')
+        for head, wrong in ((' Counter', 1), (' Shape', 1), ("<'a> Reader<'a>", 1), (' Inside', 0)):
+            for path, text in (('crates/one/src/inner.rt', INNER), ('crates/one/src/more.rt', '')):
+                self.assertEqual(len(self.found(PUBLIC, listed, **{path: text + METHOD % head})), wrong, (head, path))
 
     def test_call_with_one_wrong_program(self):
         self.assertEqual(len(self.found(PUBLIC, TABLES.replace('twice.edit', 'stays.edit'))), 1)

@@ -155,31 +155,31 @@ static void denoise_plane(void)
 static void denoise_frame(void)
 {
     uint16_t y[9] = {0, 0, 0, 0, 16}, cb[4] = {0, 16, 0, 16}, cr[4] = {0, 0, 16, 16};
-    uint16_t dy[9], dcb[4], dcr[4];
-    fill(dy, 9, 500);
-    fill(dcb, 4, 501);
-    fill(dcr, 4, 502);
-#define FRAME LENT(y), LENT(cb), LENT(cr), LENT(dy), LENT(dcb), LENT(dcr)
+    uint16_t y_den[9], cb_den[4], cr_den[4];
+    fill(y_den, 9, 500);
+    fill(cb_den, 4, 501);
+    fill(cr_den, 4, 502);
+#define FRAME LENT(y), LENT(cb), LENT(cr), LENT(y_den), LENT(cb_den), LENT(cr_den)
     SAME(grain_denoise_frame(shape(4097, 3, 8, 1), FRAME), 1);
     SAME(grain_denoise_frame(shape(0, 3, 8, 1), FRAME), 2);
     SAME(grain_denoise_frame(shape(3, 3, 9, 1), FRAME), 3);
     SAME(grain_denoise_frame(shape(3, 3, 8, 4), FRAME), 4);
     SAME(grain_denoise_frame(shape(3, 3, 8, 2), FRAME), 5);
-    SAME(grain_denoise_frame(shape(3, 3, 8, 1), LENT(y), LENT(cb), LENT(cr), LENT(dy), LENT(dcb), dcr, 3), 5);
+    SAME(grain_denoise_frame(shape(3, 3, 8, 1), LENT(y), LENT(cb), LENT(cr), LENT(y_den), LENT(cb_den), cr_den, 3), 5);
     cr[3] = 256;
     SAME(grain_denoise_frame(shape(3, 3, 8, 1), FRAME), 6);
-    SAME_ALL(dy, 500, 500, 500, 500, 500, 500, 500, 500, 500);
-    SAME_ALL(dcb, 501, 501, 501, 501);
-    SAME_ALL(dcr, 502, 502, 502, 502);
+    SAME_ALL(y_den, 500, 500, 500, 500, 500, 500, 500, 500, 500);
+    SAME_ALL(cb_den, 501, 501, 501, 501);
+    SAME_ALL(cr_den, 502, 502, 502, 502);
     cr[3] = 16;
     SAME(grain_denoise_frame(shape(3, 3, 8, 1), FRAME), 0);
-    SAME_ALL(dy, 1, 2, 1, 2, 4, 2, 1, 2, 1);
-    SAME_ALL(dcb, 4, 12, 4, 12);
-    SAME_ALL(dcr, 4, 4, 12, 12);
+    SAME_ALL(y_den, 1, 2, 1, 2, 4, 2, 1, 2, 1);
+    SAME_ALL(cb_den, 4, 12, 4, 12);
+    SAME_ALL(cr_den, 4, 4, 12, 12);
 #undef FRAME
-    fill(dy, 9, 500);
-    SAME(grain_denoise_frame(shape(3, 3, 8, 0), LENT(y), NONE, NONE, LENT(dy), NONE, NONE), 0);
-    SAME_ALL(dy, 1, 2, 1, 2, 4, 2, 1, 2, 1);
+    fill(y_den, 9, 500);
+    SAME(grain_denoise_frame(shape(3, 3, 8, 0), LENT(y), NONE, NONE, LENT(y_den), NONE, NONE), 0);
+    SAME_ALL(y_den, 1, 2, 1, 2, 4, 2, 1, 2, 1);
 }
 
 /* ---- Sigma16 and the profile ---- */
@@ -222,13 +222,13 @@ static void plane_sigma16(void)
 /* n luma samples of which `few` have the noise 1 and lie in bin 1, the rest in bin 0 without noise: bin 1's sigma16. */
 static uint64_t bin1(size_t width, size_t height, size_t few)
 {
-    static uint16_t y[6500], dy[6500];
+    static uint16_t y[6500], y_den[6500];
     size_t n = width * height;
     fill(y, n, 9);
-    fill(dy, n, 9);
+    fill(y_den, n, 9);
     fill(y, few, 33);
-    fill(dy, few, 32);
-    grain_estimate a = grain_noise_estimate(shape(width, height, 8, 0), y, n, NONE, NONE, dy, n, NONE, NONE);
+    fill(y_den, few, 32);
+    grain_estimate a = grain_noise_estimate(shape(width, height, 8, 0), y, n, NONE, NONE, y_den, n, NONE, NONE);
     SAME(a.refusal, 0);
     SAME(a.luma.sigma16, 2);
     SAME(a.luma.bin_count[0], n - few);
@@ -242,8 +242,8 @@ static uint64_t bin1(size_t width, size_t height, size_t few)
 static void noise_estimate(void)
 {
     uint16_t y[4] = {31, 32, 31, 255}, cb[4] = {63, 64, 63, 255}, cr[4] = {0, 0, 64, 64};
-    uint16_t dy[4] = {30, 32, 31, 255}, dcb[4] = {63, 62, 63, 255}, dcr[4] = {0, 0, 64, 61};
-#define FRAME LENT(y), LENT(cb), LENT(cr), LENT(dy), LENT(dcb), LENT(dcr)
+    uint16_t y_den[4] = {30, 32, 31, 255}, cb_den[4] = {63, 62, 63, 255}, cr_den[4] = {0, 0, 64, 61};
+#define FRAME LENT(y), LENT(cb), LENT(cr), LENT(y_den), LENT(cb_den), LENT(cr_den)
     grain_estimate a = grain_noise_estimate(shape(2, 2, 8, 3), FRAME);
     SAME(a.refusal, 0);
     SAME(a.luma.sigma16, 8);
@@ -274,7 +274,7 @@ static void noise_estimate(void)
     SAME(grain_noise_estimate(shape(2, 2, 0, 3), FRAME).refusal, 3);
     SAME(grain_noise_estimate(shape(2, 2, 8, 4), FRAME).refusal, 4);
     SAME(grain_noise_estimate(shape(2, 2, 8, 1), FRAME).refusal, 5);
-    dcr[0] = 256;
+    cr_den[0] = 256;
     a = grain_noise_estimate(shape(2, 2, 8, 3), FRAME);
     SAME(a.refusal, 6);
     ZERO(a.luma);
@@ -319,23 +319,23 @@ static void lag_h_rho(void)
 /* The gates of two frames of one row; chroma is handed the sigma16. At 8 bits the noise shows unshifted. */
 static bool luma(const int *first, const int *second, size_t n)
 {
-    uint16_t y0[10], d0[10], y1[10], d1[10];
+    uint16_t src0[10], den0[10], src1[10], den1[10];
     for (size_t i = 0; i < n; i++) {
-        y0[i] = (uint16_t)(100 + first[i]);
-        y1[i] = (uint16_t)(100 + second[i]);
-        d0[i] = d1[i] = 100;
+        src0[i] = (uint16_t)(100 + first[i]);
+        src1[i] = (uint16_t)(100 + second[i]);
+        den0[i] = den1[i] = 100;
     }
-    grain_gate a = grain_film_grain_probe(shape(n, 1, 8, 0), y0, n, d0, n, y1, n, d1, n);
+    grain_gate a = grain_film_grain_probe(shape(n, 1, 8, 0), src0, n, den0, n, src1, n, den1, n);
     SAME(a.refusal, 0);
     return a.yes;
 }
 
 static bool chroma(const int *first, const int *second, size_t n, uint64_t sigma)
 {
-    uint16_t c0[10], d0[10], c1[10], d1[10];
-    samples(first, n, c0, d0);
-    samples(second, n, c1, d1);
-    grain_gate a = grain_chroma_noise_gate(shape(2 * n, 1, 10, 1), c0, n, d0, n, c1, n, d1, n, sigma);
+    uint16_t src0[10], den0[10], src1[10], den1[10];
+    samples(first, n, src0, den0);
+    samples(second, n, src1, den1);
+    grain_gate a = grain_chroma_noise_gate(shape(2 * n, 1, 10, 1), src0, n, den0, n, src1, n, den1, n, sigma);
     SAME(a.refusal, 0);
     return a.yes;
 }
@@ -384,8 +384,8 @@ static void gates(void)
 
 static void fit_chroma_corr(void)
 {
-    uint16_t y[3] = {0, 4, 8}, cb[2] = {1, 1}, cr[2] = {0, 0}, dy[3] = {0}, dcb[2] = {0}, dcr[2] = {2, 2};
-#define FRAME LENT(y), LENT(cb), LENT(cr), LENT(dy), LENT(dcb), LENT(dcr)
+    uint16_t y[3] = {0, 4, 8}, cb[2] = {1, 1}, cr[2] = {0, 0}, y_den[3] = {0}, cb_den[2] = {0}, cr_den[2] = {2, 2};
+#define FRAME LENT(y), LENT(cb), LENT(cr), LENT(y_den), LENT(cb_den), LENT(cr_den)
     grain_chroma_corr a = grain_fit_chroma_corr(shape(3, 1, 8, 1), FRAME);
     SAME(a.refusal, 0);
     SAME(a.cb, 9);
@@ -395,13 +395,13 @@ static void fit_chroma_corr(void)
     SAME(grain_fit_chroma_corr(shape(3, 1, 255, 1), FRAME).refusal, 3);
     SAME(grain_fit_chroma_corr(shape(3, 1, 8, 255), FRAME).refusal, 4);
     SAME(grain_fit_chroma_corr(shape(3, 1, 8, 3), FRAME).refusal, 5);
-    dcb[1] = 256;
+    cb_den[1] = 256;
     a = grain_fit_chroma_corr(shape(3, 1, 8, 1), FRAME);
     SAME(a.refusal, 6);
     ZERO(a.cb);
     ZERO(a.cr);
 #undef FRAME
-    a = grain_fit_chroma_corr(shape(3, 1, 8, 0), LENT(y), NONE, NONE, LENT(dy), NONE, NONE);
+    a = grain_fit_chroma_corr(shape(3, 1, 8, 0), LENT(y), NONE, NONE, LENT(y_den), NONE, NONE);
     SAME(a.refusal, 0);
     SAME(a.cb, 0);
     SAME(a.cr, 0);
@@ -500,11 +500,11 @@ static void fit_ar_lag(void)
             n[1][i] = r == 0 || c == 0 || c == W - 1 ? free_noise[r + c] : n[1][i - W + 1] - n[0][i];
             n[2][i] = c == 0 ? free_noise[2 * r] : n[0][i] - n[2][i - 1];
         }
-    uint16_t y[H * W], cb[H * W], cr[H * W], dy[H * W], dcb[H * W], dcr[H * W];
-    samples(n[0], H * W, y, dy);
-    samples(n[1], H * W, cb, dcb);
-    samples(n[2], H * W, cr, dcr);
-#define FRAME LENT(y), LENT(cb), LENT(cr), LENT(dy), LENT(dcb), LENT(dcr)
+    uint16_t y[H * W], cb[H * W], cr[H * W], y_den[H * W], cb_den[H * W], cr_den[H * W];
+    samples(n[0], H * W, y, y_den);
+    samples(n[1], H * W, cb, cb_den);
+    samples(n[2], H * W, cr, cr_den);
+#define FRAME LENT(y), LENT(cb), LENT(cr), LENT(y_den), LENT(cb_den), LENT(cr_den)
     grain_fit a = grain_fit_ar_lag(shape(W, H, 10, 3), FRAME, 1);
     SAME(a.refusal, 0);
     SAME(a.found, true);
@@ -513,7 +513,7 @@ static void fit_ar_lag(void)
     SAME_ALL(a.cb, 0, 0, 64, 0, -64, 0, 0, 0, 0, 0, 0, 0, 0, 0, 0, 0, 0, 0, 0, 0, 0, 0, 0, 0, 0);
     SAME_ALL(a.cr, 0, 0, 0, -64, 64, 0, 0, 0, 0, 0, 0, 0, 0, 0, 0, 0, 0, 0, 0, 0, 0, 0, 0, 0, 0);
 
-    a = grain_fit_ar_lag(shape(2, 2, 10, 0), y, 4, NONE, NONE, dy, 4, NONE, NONE, 1);
+    a = grain_fit_ar_lag(shape(2, 2, 10, 0), y, 4, NONE, NONE, y_den, 4, NONE, NONE, 1);
     SAME(a.refusal, 0);
     SAME(a.found, false);
     SAME(grain_fit_ar_lag(shape(W, H, 10, 3), FRAME, 0).found, false);

@@ -11,25 +11,47 @@ use grain::{Chroma, Refusal};
 /// The words of an accepted answer.
 pub type Words = Vec<u64>;
 
+pub type Ours = fn(&Input, &mut Planes) -> Result<Words, Refusal>;
+pub type Rust = fn(&Input, &mut Planes) -> Words;
+
 pub struct Call {
     pub name: &'static str,
+    pub ours: Ours,
+    pub rust: Rust,
     pub asks: Asks,
     /// The planes it is lent, in the order of the interface.
     pub lent: &'static [Plane],
-    /// How many planes it writes.
+    /// How many planes it writes. A call that writes none answers with words.
     pub destinations: usize,
     /// Its lag, order, bits, sigma16 or hint.
     pub number: fn(&mut Random) -> u64,
     /// How many of a run's cases are its own, in proportion.
     pub share: usize,
-    pub ours: fn(&Input, &mut Planes) -> Result<Words, Refusal>,
-    pub rust: fn(&Input, &mut Planes) -> Words,
     /// What the answer carries and the Rust keeps inside, worked out plainly.
     pub added: fn(&Input) -> Words,
     /// A frame call by the C interface, for formats that the safe one can't name.
     pub raw: Option<fn(&Input, &mut Planes) -> u32>,
     /// The numbers it is timed with, and how many times as fast as the Rust it should be on the largest planes.
     pub timed: &'static [(u64, Option<f64>)],
+}
+
+impl Call {
+    /// A call that is asked and lent nothing. Both sides must be given; a row of the table says what is otherwise.
+    pub const fn new(name: &'static str, ours: Ours, rust: Rust) -> Self {
+        Call {
+            name,
+            ours,
+            rust,
+            asks: Asks::NOTHING,
+            lent: &[],
+            destinations: 0,
+            number: |_| 0,
+            share: 1,
+            added: |_| Words::new(),
+            raw: None,
+            timed: &[(0, None)],
+        }
+    }
 }
 
 const fn plane(frame: usize, denoised: bool, component: usize) -> Plane {
@@ -64,38 +86,15 @@ const fn two(component: usize) -> [Plane; 4] {
 
 const SIZE: Asks = Asks {
     size: true,
-    frame: false,
-    depth: false,
-    lag: false,
-    order: false,
-    bits: false,
+    ..Asks::NOTHING
 };
-const DEEP: Asks = Asks {
+const SIZE_AND_DEPTH: Asks = Asks {
     depth: true,
     ..SIZE
 };
-const FRAMES: Asks = Asks {
+const SHAPE: Asks = Asks {
     frame: true,
-    ..DEEP
-};
-const NOTHING: Asks = Asks {
-    size: false,
-    ..SIZE
-};
-
-/// What the rows below have in common.
-const PLAIN: Call = Call {
-    name: "",
-    asks: NOTHING,
-    lent: &[],
-    destinations: 0,
-    number: |_| 0,
-    share: 1,
-    ours: |_, _| Ok(Words::new()),
-    rust: |_, _| Words::new(),
-    added: |_| Words::new(),
-    raw: None,
-    timed: &[(0, None)],
+    ..SIZE_AND_DEPTH
 };
 
 fn lag(random: &mut Random) -> u64 {
@@ -108,138 +107,117 @@ fn sigma16(random: &mut Random) -> u64 {
 
 pub const CALLS: &[Call] = &[
     Call {
-        name: "denoise_plane",
         asks: SIZE,
         lent: LONE,
         destinations: 1,
         share: 4,
-        ours: ours::denoise_plane,
-        rust: rust::denoise_plane,
         timed: &[(0, Some(6.0))],
-        ..PLAIN
+        ..Call::new("denoise_plane", ours::denoise_plane, rust::denoise_plane)
     },
     Call {
-        name: "denoise_frame",
-        asks: FRAMES,
+        asks: SHAPE,
         lent: FRAME,
         destinations: 3,
         share: 4,
-        ours: ours::denoise_frame,
-        rust: rust::denoise_frame,
         raw: Some(raw::denoise_frame),
         timed: &[(0, Some(6.0))],
-        ..PLAIN
+        ..Call::new("denoise_frame", ours::denoise_frame, rust::denoise_frame)
     },
     Call {
-        name: "plane_sigma16",
-        asks: DEEP,
+        asks: SIZE_AND_DEPTH,
         lent: BOTH,
         share: 4,
-        ours: ours::plane_sigma16,
-        rust: rust::plane_sigma16,
-        ..PLAIN
+        ..Call::new("plane_sigma16", ours::plane_sigma16, rust::plane_sigma16)
     },
     Call {
-        name: "noise_estimate",
-        asks: FRAMES,
+        asks: SHAPE,
         lent: FRAME_AND_COPY,
         share: 6,
-        ours: ours::noise_estimate,
-        rust: rust::noise_estimate,
         added: rust::bins,
         raw: Some(raw::noise_estimate),
         timed: &[(0, Some(1.5))],
-        ..PLAIN
+        ..Call::new("noise_estimate", ours::noise_estimate, rust::noise_estimate)
     },
     Call {
-        name: "lag_h_rho",
-        asks: DEEP,
+        asks: SIZE_AND_DEPTH,
         lent: BOTH,
         number: |random| random.pick(&[0, 1, 2, 3, 4, 5, 8, 31, 33, 100, 4095, 4096, u64::MAX]),
         share: 5,
-        ours: ours::lag_h_rho,
-        rust: rust::lag_h_rho,
         timed: &[(1, Some(8.0))],
-        ..PLAIN
+        ..Call::new("lag_h_rho", ours::lag_h_rho, rust::lag_h_rho)
     },
     Call {
-        name: "film_grain_probe",
-        asks: FRAMES,
+        asks: SHAPE,
         lent: &two(0),
         share: 6,
-        ours: ours::film_grain_probe,
-        rust: rust::film_grain_probe,
         raw: Some(raw::film_grain_probe),
         timed: &[(0, Some(8.0))],
-        ..PLAIN
+        ..Call::new(
+            "film_grain_probe",
+            ours::film_grain_probe,
+            rust::film_grain_probe,
+        )
     },
     Call {
-        name: "chroma_noise_gate/cb",
-        asks: FRAMES,
+        asks: SHAPE,
         lent: &two(1),
         number: sigma16,
         share: 4,
-        ours: |input, _| ours::chroma_noise_gate(input, Chroma::Cb),
-        rust: |input, _| rust::chroma_noise_gate(input, 1),
         raw: Some(|input, _| raw::chroma_noise_gate(input, 1)),
         timed: &[(100, Some(8.0))],
-        ..PLAIN
+        ..Call::new(
+            "chroma_noise_gate/cb",
+            |input, _| ours::chroma_noise_gate(input, Chroma::Cb),
+            |input, _| rust::chroma_noise_gate(input, 1),
+        )
     },
     Call {
-        name: "chroma_noise_gate/cr",
-        asks: FRAMES,
+        asks: SHAPE,
         lent: &two(2),
         number: sigma16,
         share: 4,
-        ours: |input, _| ours::chroma_noise_gate(input, Chroma::Cr),
-        rust: |input, _| rust::chroma_noise_gate(input, 2),
         raw: Some(|input, _| raw::chroma_noise_gate(input, 2)),
         timed: &[(100, Some(8.0))],
-        ..PLAIN
+        ..Call::new(
+            "chroma_noise_gate/cr",
+            |input, _| ours::chroma_noise_gate(input, Chroma::Cr),
+            |input, _| rust::chroma_noise_gate(input, 2),
+        )
     },
     Call {
-        name: "fit_chroma_corr",
-        asks: FRAMES,
+        asks: SHAPE,
         lent: FRAME_AND_COPY,
         share: 6,
-        ours: ours::fit_chroma_corr,
-        rust: rust::fit_chroma_corr,
         raw: Some(raw::fit_chroma_corr),
         timed: &[(0, Some(8.0))],
-        ..PLAIN
+        ..Call::new(
+            "fit_chroma_corr",
+            ours::fit_chroma_corr,
+            rust::fit_chroma_corr,
+        )
     },
     Call {
-        name: "ar_positions",
         asks: Asks {
             lag: true,
-            ..NOTHING
+            ..Asks::NOTHING
         },
         number: lag,
-        ours: ours::ar_positions,
-        rust: rust::ar_positions,
         timed: &[(3, None)],
-        ..PLAIN
+        ..Call::new("ar_positions", ours::ar_positions, rust::ar_positions)
     },
     Call {
-        name: "fit_ar_lag",
-        asks: Asks {
-            lag: true,
-            ..FRAMES
-        },
+        asks: Asks { lag: true, ..SHAPE },
         lent: FRAME_AND_COPY,
         number: lag,
         share: 12,
-        ours: ours::fit_ar_lag,
-        rust: rust::fit_ar_lag,
         raw: Some(raw::fit_ar_lag),
         timed: &[(1, Some(35.0)), (2, Some(35.0)), (3, Some(60.0))],
-        ..PLAIN
+        ..Call::new("fit_ar_lag", ours::fit_ar_lag, rust::fit_ar_lag)
     },
     Call {
-        name: "solve_normal",
         asks: Asks {
             order: true,
-            ..NOTHING
+            ..Asks::NOTHING
         },
         number: |random| match random.below(20) {
             0 => random.pick(&[0, 26, 27, 1000, u64::MAX]),
@@ -247,40 +225,33 @@ pub const CALLS: &[Call] = &[
             _ => 1 + random.below(25) as u64,
         },
         share: 5,
-        ours: ours::solve_normal,
-        rust: rust::solve_normal,
         timed: &[(24, None)],
-        ..PLAIN
+        ..Call::new("solve_normal", ours::solve_normal, rust::solve_normal)
     },
     Call {
-        name: "quant_ar",
         share: 4,
-        ours: ours::quant_ar,
-        rust: rust::quant_ar,
-        ..PLAIN
+        ..Call::new("quant_ar", ours::quant_ar, rust::quant_ar)
     },
     Call {
-        name: "grain_seed_for",
         number: |random| random.bits() >> random.pick(&[32, 48]),
         share: 2,
-        ours: ours::grain_seed_for,
-        rust: rust::grain_seed_for,
         timed: &[(1, None)],
-        ..PLAIN
+        ..Call::new("grain_seed_for", ours::grain_seed_for, rust::grain_seed_for)
     },
     Call {
-        name: "RandomRegister::next",
         asks: Asks {
             bits: true,
-            ..NOTHING
+            ..Asks::NOTHING
         },
         number: |random| {
             random.pick(&[0, 1, 8, 11, 15, 16, 16, 17, 18, 32, 65536, u32::MAX.into()])
         },
         share: 3,
-        ours: ours::register_next,
-        rust: rust::register_next,
         timed: &[(11, None)],
-        ..PLAIN
+        ..Call::new(
+            "RandomRegister::next",
+            ours::register_next,
+            rust::register_next,
+        )
     },
 ];

@@ -9,7 +9,7 @@ pub mod input;
 pub mod noise;
 mod ours;
 pub mod outcome;
-mod questions;
+pub mod questions;
 pub mod random;
 mod raw;
 mod rust;

@@ -3,31 +3,26 @@
 use crate::calls::Words;
 use crate::input::{Input, Planes};
 use crate::rust::STEPS;
-use crate::words::{coefficients, float, solution, whole};
-use grain::{Chroma, Format, Frame, Profile, RandomRegister, Refusal, Shape};
+use crate::words::{coefficients, float, positions, solution, whole};
+use grain::{Chroma, Format, Frame, Pair, Profile, RandomRegister, Refusal, Shape, TwoFrames};
 use oracle::YuvFrame;
 
-fn lent<'a>(input: &Input, frame: &'a YuvFrame) -> Result<Frame<'a>, Refusal> {
-    let shape = Shape {
-        width: input.width,
-        height: input.height,
-        depth: input.depth,
-        format: Format::try_from(input.format)?,
-    };
-    Ok(Frame {
-        shape,
-        y: &frame.y,
-        cb: &frame.u,
-        cr: &frame.v,
-    })
+fn lent<'a>(input: &Input, planes: &'a YuvFrame) -> Result<Frame<'a>, Refusal> {
+    let format = Format::try_from(input.format)?;
+    let shape = Shape::new(input.width, input.height, input.depth, format);
+    Ok(Frame::new(shape, &planes.y, &planes.u, &planes.v))
 }
 
-/// The first frame and its denoised copy.
-fn pair(input: &Input) -> Result<[Frame<'_>; 2], Refusal> {
-    Ok([
-        lent(input, &input.frames[0])?,
-        lent(input, &input.denoised[0])?,
-    ])
+/// A frame and its denoised copy.
+fn pair(input: &Input, at: usize) -> Result<Pair<'_>, Refusal> {
+    let frame = lent(input, &input.frames[at])?;
+    let denoised = lent(input, &input.denoised[at])?;
+    Ok(Pair::new(frame, denoised).expect("an input has one shape"))
+}
+
+fn two_frames(input: &Input) -> Result<TwoFrames<'_>, Refusal> {
+    let frames = TwoFrames::new(pair(input, 0)?, pair(input, 1)?);
+    Ok(frames.expect("an input has one shape"))
 }
 
 pub fn denoise_plane(input: &Input, out: &mut Planes) -> Result<Words, Refusal> {
@@ -57,8 +52,7 @@ fn counts<const N: usize>(p: &Profile<N>) -> impl Iterator<Item = u64> {
 }
 
 pub fn noise_estimate(input: &Input, _: &mut Planes) -> Result<Words, Refusal> {
-    let [frame, denoised] = pair(input)?;
-    let found = grain::noise_estimate(&frame, &denoised)?;
+    let found = grain::noise_estimate(&pair(input, 0)?)?;
     let sigmas = sigmas(&found.luma).chain(sigmas(&found.cb).chain(sigmas(&found.cr)));
     let counts = counts(&found.luma).chain(counts(&found.cb).chain(counts(&found.cr)));
     Ok(sigmas.chain(counts).collect())
@@ -72,45 +66,25 @@ pub fn lag_h_rho(input: &Input, _: &mut Planes) -> Result<Words, Refusal> {
 }
 
 pub fn film_grain_probe(input: &Input, _: &mut Planes) -> Result<Words, Refusal> {
-    let first = pair(input)?;
-    let second = lent(input, &input.frames[1])?;
-    let second_denoised = lent(input, &input.denoised[1])?;
-    let yes = grain::film_grain_probe(&first[0], &first[1], &second, &second_denoised)?;
-    Ok(vec![yes.into()])
+    Ok(vec![grain::film_grain_probe(&two_frames(input)?)?.into()])
 }
 
 pub fn chroma_noise_gate(input: &Input, plane: Chroma) -> Result<Words, Refusal> {
-    let first = pair(input)?;
-    let second = lent(input, &input.frames[1])?;
-    let second_denoised = lent(input, &input.denoised[1])?;
-    let yes = grain::chroma_noise_gate(
-        &first[0],
-        &first[1],
-        &second,
-        &second_denoised,
-        plane,
-        input.number,
-    )?;
+    let yes = grain::chroma_noise_gate(&two_frames(input)?, plane, input.number)?;
     Ok(vec![yes.into()])
 }
 
 pub fn fit_chroma_corr(input: &Input, _: &mut Planes) -> Result<Words, Refusal> {
-    let [frame, denoised] = pair(input)?;
-    let found = grain::fit_chroma_corr(&frame, &denoised)?;
+    let found = grain::fit_chroma_corr(&pair(input, 0)?)?;
     Ok(vec![whole(found.cb), whole(found.cr)])
 }
 
 pub fn ar_positions(input: &Input, _: &mut Planes) -> Result<Words, Refusal> {
-    let places = grain::ar_positions(input.number as usize)?;
-    Ok(places
-        .iter()
-        .flat_map(|&(r, c)| [whole(r), whole(c)])
-        .collect())
+    Ok(positions(grain::ar_positions(input.number as usize)?))
 }
 
 pub fn fit_ar_lag(input: &Input, _: &mut Planes) -> Result<Words, Refusal> {
-    let [frame, denoised] = pair(input)?;
-    let found = grain::fit_ar_lag(&frame, &denoised, input.number as usize)?;
+    let found = grain::fit_ar_lag(&pair(input, 0)?, input.number as usize)?;
     Ok(coefficients(found.map(|f| (f.lag, [f.y, f.cb, f.cr]))))
 }
 

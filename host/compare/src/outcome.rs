@@ -1,10 +1,11 @@
 //! What comes of a case, and what should.
 
-use crate::calls::Words;
+use crate::calls::{Call, Words};
 use crate::case::Case;
 use crate::input::{Input, Planes};
 use crate::questions;
 use grain::Refusal;
+use std::fmt;
 
 /// An answer, or the number of a refusal, and the destinations afterwards.
 #[derive(Debug, PartialEq, Eq)]
@@ -14,27 +15,60 @@ pub struct Outcome {
 }
 
 /// What the library does.
-pub fn ours(case: &Case, input: &Input) -> Outcome {
+fn ours(call: &Call, input: &Input) -> Outcome {
     let mut planes = input.destination.clone();
-    let answer = match case.call.raw {
+    let answer = match call.raw {
         Some(raw) if input.format > 3 => Err(raw(input, &mut planes)),
-        _ => (case.call.ours)(input, &mut planes).map_err(Refusal::number),
+        _ => (call.ours)(input, &mut planes).map_err(Refusal::number),
     };
     Outcome { answer, planes }
 }
 
 /// What it should do: refuse with the first question failed and leave the destinations, or else do as the Rust does.
-pub fn due(case: &Case, input: &Input) -> Outcome {
+fn due(call: &Call, input: &Input) -> Outcome {
     let mut planes = input.destination.clone();
-    let answer = match questions::first_failed(case.call, input) {
-        0 => {
-            let mut words = (case.call.rust)(input, &mut planes);
-            words.extend((case.call.added)(input));
+    let answer = match questions::first_failed(call, input) {
+        None => {
+            let mut words = (call.rust)(input, &mut planes);
+            words.extend((call.added)(input));
             Ok(words)
         }
-        number => Err(number),
+        Some(number) => Err(number),
     };
     Outcome { answer, planes }
+}
+
+/// Both outcomes of a case.
+pub struct Comparison {
+    pub ours: Outcome,
+    pub due: Outcome,
+    /// The call is accepted, writes no plane and has no words: there is nothing to compare.
+    pub silent: bool,
+}
+
+impl Comparison {
+    pub fn new(case: &Case) -> Self {
+        let input = Input::new(case);
+        let (ours, due) = (ours(case.call, &input), due(case.call, &input));
+        let wordless = due.answer.as_ref().is_ok_and(Words::is_empty);
+        let silent = wordless && case.call.destinations == 0;
+        Comparison { ours, due, silent }
+    }
+
+    pub fn agrees(&self) -> bool {
+        self.ours == self.due && !self.silent
+    }
+}
+
+impl fmt::Display for Comparison {
+    fn fmt(&self, f: &mut fmt::Formatter<'_>) -> fmt::Result {
+        let (ours, due) = (self.ours.shown(), self.due.shown());
+        write!(f, "  ours {ours}\n  due  {due}")?;
+        match self.silent {
+            true => write!(f, "\n  an accepted call that says nothing"),
+            false => Ok(()),
+        }
+    }
 }
 
 impl Outcome {
@@ -45,7 +79,7 @@ impl Outcome {
     }
 
     /// The outcome in a line or two; long destinations are cut.
-    pub fn shown(&self) -> String {
+    fn shown(&self) -> String {
         let answer = match &self.answer {
             Ok(words) => format!("{:?}", words.iter().map(|&w| w as i64).collect::<Vec<_>>()),
             Err(number) => format!("refused with {number}"),

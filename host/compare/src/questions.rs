@@ -4,7 +4,7 @@ use crate::calls::Call;
 use crate::input::{Input, plane_size};
 
 /// Which of the scope's questions a call is asked, beside the lengths of what it is lent: those about things it receives.
-#[derive(Clone, Copy, Default)]
+#[derive(Clone, Copy)]
 pub struct Asks {
     pub size: bool,
     /// A frame call: both sides at least 1, and a format.
@@ -15,35 +15,93 @@ pub struct Asks {
     pub bits: bool,
 }
 
-/// The number of the first question failed, or 0.
-pub fn first_failed(call: &Call, input: &Input) -> u32 {
-    let asks = call.asks;
-    let size = (input.width, input.height);
-    let length = |component| {
-        let (w, h) = plane_size(input.format, size, component);
+impl Asks {
+    pub const NOTHING: Asks = Asks {
+        size: false,
+        frame: false,
+        depth: false,
+        lag: false,
+        order: false,
+        bits: false,
+    };
+}
+
+pub struct Question {
+    pub number: u32,
+    asked: fn(Asks) -> bool,
+    passed: fn(&Call, &Input) -> bool,
+}
+
+/// In the order in which they are asked.
+pub const QUESTIONS: &[Question] = &[
+    Question {
+        number: 1,
+        asked: |asks| asks.size,
+        passed: |_, input| input.width <= 4096 && input.height <= 4096,
+    },
+    Question {
+        number: 2,
+        asked: |asks| asks.frame,
+        passed: |_, input| input.width >= 1 && input.height >= 1,
+    },
+    Question {
+        number: 3,
+        asked: |asks| asks.depth,
+        passed: |_, input| [8, 10, 12].contains(&input.depth),
+    },
+    Question {
+        number: 4,
+        asked: |asks| asks.frame,
+        passed: |_, input| input.format <= 3,
+    },
+    Question {
+        number: 5,
+        asked: |_| true,
+        passed: whole,
+    },
+    Question {
+        number: 6,
+        asked: |asks| asks.depth,
+        passed: low,
+    },
+    Question {
+        number: 7,
+        asked: |asks| asks.lag,
+        passed: |_, input| input.number <= 3,
+    },
+    Question {
+        number: 8,
+        asked: |asks| asks.order,
+        passed: |_, input| (1..=25).contains(&input.number),
+    },
+    Question {
+        number: 9,
+        asked: |asks| asks.bits,
+        passed: |_, input| input.number <= 16,
+    },
+];
+
+/// Whether every plane, destinations included, has its number of samples.
+fn whole(call: &Call, input: &Input) -> bool {
+    let samples = |component| {
+        let (w, h) = plane_size(input.format, (input.width, input.height), component);
         w.saturating_mul(h)
     };
-    let lengths = || {
-        let lent = call.lent.iter();
-        let mut lent = lent.map(|&p| input.plane(p).len() == length(p.component));
-        let mut written = (0..call.destinations).map(|c| input.destination[c].len() == length(c));
-        lent.all(|same| same) && written.all(|same| same)
-    };
-    let samples = || {
-        let mut lent = call.lent.iter().flat_map(|&p| input.plane(p));
-        lent.all(|&sample| u32::from(sample) < 1 << input.depth)
-    };
-    let questions: [(bool, &dyn Fn() -> bool); 9] = [
-        (asks.size, &|| size.0 <= 4096 && size.1 <= 4096),
-        (asks.frame, &|| size.0 >= 1 && size.1 >= 1),
-        (asks.depth, &|| [8, 10, 12].contains(&input.depth)),
-        (asks.frame, &|| input.format <= 3),
-        (true, &lengths),
-        (asks.depth, &samples),
-        (asks.lag, &|| input.number <= 3),
-        (asks.order, &|| (1..=25).contains(&input.number)),
-        (asks.bits, &|| input.number <= 16),
-    ];
-    let failed = questions.iter().position(|(asked, yes)| *asked && !yes());
-    failed.map_or(0, |at| at as u32 + 1)
+    let mut lent = call.lent.iter();
+    let mut written = 0..call.destinations;
+    lent.all(|&p| input.plane(p).len() == samples(p.component))
+        && written.all(|component| input.destination[component].len() == samples(component))
+}
+
+/// Whether every sample is below 2^depth.
+fn low(call: &Call, input: &Input) -> bool {
+    let mut lent = call.lent.iter().flat_map(|&p| input.plane(p));
+    lent.all(|&sample| u32::from(sample) < 1 << input.depth)
+}
+
+/// The number of the first question that the call is asked and fails.
+pub fn first_failed(call: &Call, input: &Input) -> Option<u32> {
+    let mut asked = QUESTIONS.iter().filter(|q| (q.asked)(call.asks));
+    let failed = asked.find(|q| !(q.passed)(call, input));
+    failed.map(|question| question.number)
 }

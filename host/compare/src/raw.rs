@@ -2,114 +2,66 @@
 #![allow(unsafe_code)]
 
 use crate::input::{Input, Planes};
-use grain::sys::{self, Shape};
+use grain::sys::{self, call};
+use grain::{Format, Shape};
+use oracle::YuvFrame;
 
-fn shape(input: &Input) -> Shape {
-    Shape {
-        width: input.width,
-        height: input.height,
-        depth: input.depth,
+fn shape(input: &Input) -> sys::Shape {
+    let named = Shape::new(input.width, input.height, input.depth, Format::Monochrome);
+    sys::Shape {
         format: input.format,
+        ..named.into()
     }
 }
 
-/// Calls an interface function of six planes, a frame's and its copy's.
-macro_rules! frame_and_copy {
-    ($call:ident, $input:expr $(, $more:expr)*) => {{
-        let (frame, copy) = (&$input.frames[0], &$input.denoised[0]);
-        // SAFETY: each pointer is a slice's own, with the slice's length.
-        unsafe {
-            sys::$call(
-                shape($input),
-                frame.y.as_ptr(), frame.y.len(),
-                frame.u.as_ptr(), frame.u.len(),
-                frame.v.as_ptr(), frame.v.len(),
-                copy.y.as_ptr(), copy.y.len(),
-                copy.u.as_ptr(), copy.u.len(),
-                copy.v.as_ptr(), copy.v.len()
-                $(, $more)*
-            )
-        }
-        .refusal
+fn planes(frame: &YuvFrame) -> [&[u16]; 3] {
+    [&frame.y, &frame.u, &frame.v]
+}
+
+/// The number that an interface function answers of six planes, a frame's and its copy's.
+macro_rules! of_pair {
+    ($name:ident, $input:expr $(, $number:expr)*) => {{
+        let [y, cb, cr] = planes(&$input.frames[0]);
+        let [y_den, cb_den, cr_den] = planes(&$input.denoised[0]);
+        // SAFETY: the slices are borrowed, and none is written.
+        unsafe { call!($name, [shape($input)], [y, cb, cr, y_den, cb_den, cr_den], [$($number),*]) }.refusal
     }};
 }
 
 pub fn noise_estimate(input: &Input, _: &mut Planes) -> u32 {
-    frame_and_copy!(grain_noise_estimate, input)
+    of_pair!(grain_noise_estimate, input)
 }
 
 pub fn fit_chroma_corr(input: &Input, _: &mut Planes) -> u32 {
-    frame_and_copy!(grain_fit_chroma_corr, input)
+    of_pair!(grain_fit_chroma_corr, input)
 }
 
 pub fn fit_ar_lag(input: &Input, _: &mut Planes) -> u32 {
-    frame_and_copy!(grain_fit_ar_lag, input, input.number as usize)
+    of_pair!(grain_fit_ar_lag, input, input.number as usize)
 }
 
-pub fn denoise_frame(input: &Input, out: &mut Planes) -> u32 {
-    let (frame, [y, cb, cr]) = (&input.frames[0], out);
-    // SAFETY: each pointer is a slice's own, with the slice's length; the destinations are lent alone.
+pub fn denoise_frame(input: &Input, [y_den, cb_den, cr_den]: &mut Planes) -> u32 {
+    let [y, cb, cr] = planes(&input.frames[0]);
+    // SAFETY: each destination is borrowed alone.
     unsafe {
-        sys::grain_denoise_frame(
-            shape(input),
-            frame.y.as_ptr(),
-            frame.y.len(),
-            frame.u.as_ptr(),
-            frame.u.len(),
-            frame.v.as_ptr(),
-            frame.v.len(),
-            y.as_mut_ptr(),
-            y.len(),
-            cb.as_mut_ptr(),
-            cb.len(),
-            cr.as_mut_ptr(),
-            cr.len(),
-        )
+        call!(grain_denoise_frame, [shape(input)], [y, cb, cr], mut [y_den, cb_den, cr_den], [])
     }
 }
 
-/// One component of two frames and of their copies.
-fn four(input: &Input, component: usize) -> [&[u16]; 4] {
-    let [f, g] = &input.frames;
-    let [d, e] = &input.denoised;
-    [f, d, g, e].map(|frame| [&frame.y, &frame.u, &frame.v][component].as_slice())
+/// The number that an interface function answers of one component of two frames and of their copies.
+macro_rules! of_two_frames {
+    ($name:ident, $input:expr, $component:expr $(, $number:expr)*) => {{
+        let ([first, second], [copy, other]) = (&$input.frames, &$input.denoised);
+        let [src0, den0, src1, den1] = [first, copy, second, other].map(|f| planes(f)[$component]);
+        // SAFETY: the slices are borrowed, and none is written.
+        unsafe { call!($name, [shape($input)], [src0, den0, src1, den1], [$($number),*]) }.refusal
+    }};
 }
 
 pub fn film_grain_probe(input: &Input, _: &mut Planes) -> u32 {
-    let [a, b, c, d] = four(input, 0);
-    // SAFETY: each pointer is a slice's own, with the slice's length.
-    unsafe {
-        sys::grain_film_grain_probe(
-            shape(input),
-            a.as_ptr(),
-            a.len(),
-            b.as_ptr(),
-            b.len(),
-            c.as_ptr(),
-            c.len(),
-            d.as_ptr(),
-            d.len(),
-        )
-    }
-    .refusal
+    of_two_frames!(grain_film_grain_probe, input, 0)
 }
 
 pub fn chroma_noise_gate(input: &Input, component: usize) -> u32 {
-    let [a, b, c, d] = four(input, component);
-    // SAFETY: each pointer is a slice's own, with the slice's length.
-    unsafe {
-        sys::grain_chroma_noise_gate(
-            shape(input),
-            a.as_ptr(),
-            a.len(),
-            b.as_ptr(),
-            b.len(),
-            c.as_ptr(),
-            c.len(),
-            d.as_ptr(),
-            d.len(),
-            input.number,
-        )
-    }
-    .refusal
+    of_two_frames!(grain_chroma_noise_gate, input, component, input.number)
 }

@@ -2,7 +2,7 @@
 
 use crate::calls::Words;
 use crate::input::{Input, Planes};
-use crate::words::{coefficients, float, solution, whole};
+use crate::words::{coefficients, float, positions, solution, whole};
 use oracle::RandomRegister;
 use oracle::reach;
 
@@ -83,11 +83,7 @@ pub fn fit_chroma_corr(input: &Input, _: &mut Planes) -> Words {
 }
 
 pub fn ar_positions(input: &Input, _: &mut Planes) -> Words {
-    let places = reach::ar_positions(input.number as usize);
-    places
-        .iter()
-        .flat_map(|&(r, c)| [whole(r), whole(c)])
-        .collect()
+    positions(reach::ar_positions(input.number as usize))
 }
 
 pub fn fit_ar_lag(input: &Input, _: &mut Planes) -> Words {

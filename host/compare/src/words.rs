@@ -11,6 +11,12 @@ pub fn whole(x: i32) -> u64 {
     i64::from(x) as u64
 }
 
+/// How many there are, then each row and column.
+pub fn positions(places: Vec<(i32, i32)>) -> Words {
+    let each = places.iter().flat_map(|&(r, c)| [whole(r), whole(c)]);
+    [places.len() as u64].into_iter().chain(each).collect()
+}
+
 /// 0, or 1 and the solution.
 pub fn solution(found: Option<Vec<f64>>) -> Words {
     found.map_or(vec![0], |x| {

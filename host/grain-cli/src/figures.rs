@@ -3,7 +3,7 @@
 use crate::noise::{Autocorrelation, correlation, noise};
 use crate::reel::{Still, Task};
 use anyhow::Result;
-use grain::{ArFit, Chroma, Format, NoiseEstimate, Refusal};
+use grain::{ArFit, Chroma, Format, NoiseEstimate, Refusal, TwoFrames};
 use serde::Serialize;
 use std::sync::Arc;
 
@@ -140,13 +140,13 @@ impl Gate {
         grain: bool,
         least_sigma: f64,
         sigma16: u64,
-        [s0, d0, s1, d1]: [&[u16]; 4],
+        [src0, den0, src1, den1]: [&[u16]; 4],
         (width, height): (usize, usize),
         depth: u8,
     ) -> Result<Self, Refusal> {
         let sigma = sigma16 as f64 / 16.0;
-        let row = grain::lag_h_rho(s0, d0, width, height, 1, depth)?;
-        let between = correlation([s0, d0], [s1, d1]);
+        let row = grain::lag_h_rho(src0, den0, width, height, 1, depth)?;
+        let between = correlation([src0, den0], [src1, den1]);
         let failed = if sigma < least_sigma {
             "sigma is too low"
         } else if row.abs() >= ROW_LIMIT {
@@ -215,13 +215,13 @@ impl Fit<i32> {
 /// The figures of a task's frame.
 pub fn figures(task: &Task) -> Result<FrameFigures> {
     let still = &*task.first;
-    let (source, denoised) = (still.source(), still.denoised()?);
+    let pair = still.pair()?;
     let asked = |refusal| still.refused(refusal);
-    let estimate = grain::noise_estimate(&source, &denoised).map_err(asked)?;
-    let taps = grain::fit_chroma_corr(&source, &denoised).map_err(asked)?;
-    let colour = source.shape.format != Format::Monochrome;
+    let estimate = grain::noise_estimate(&pair).map_err(asked)?;
+    let taps = grain::fit_chroma_corr(&pair).map_err(asked)?;
+    let colour = pair.shape().format != Format::Monochrome;
     let fit = |lag| {
-        let found = grain::fit_ar_lag(&source, &denoised, lag).map_err(asked)?;
+        let found = grain::fit_ar_lag(&pair, lag).map_err(asked)?;
         Ok(found.map(|found| Fit::new(found, colour)))
     };
     let gates = |second: &Arc<Still>| gates(still, second, &estimate);
@@ -244,33 +244,22 @@ pub fn figures(task: &Task) -> Result<FrameFigures> {
 
 /// The gates' answers to a frame and the next.
 fn gates(first: &Still, second: &Still, estimate: &NoiseEstimate) -> Result<Planes<Gate>> {
-    let frames = [
-        first.source(),
-        first.denoised()?,
-        second.source(),
-        second.denoised()?,
-    ];
-    let [s0, d0, s1, d1] = &frames;
-    let (shape, colour) = (s0.shape, s0.shape.format != Format::Monochrome);
+    let frames = TwoFrames::new(first.pair()?, second.pair()?)?;
+    let shape = frames.shape();
     let luma = || {
         let sigma16 = estimate.luma.sigma16;
-        let grain = grain::film_grain_probe(s0, d0, s1, d1)?;
-        let planes = [s0.y, d0.y, s1.y, d1.y];
-        Gate::new(
-            grain,
-            LEAST_SIGMA[0],
-            sigma16,
-            planes,
-            (shape.width, shape.height),
-            shape.depth,
-        )
+        let grain = grain::film_grain_probe(&frames)?;
+        let planes = frames.frames().map(|frame| frame.y);
+        let size = (shape.width, shape.height);
+        Gate::new(grain, LEAST_SIGMA[0], sigma16, planes, size, shape.depth)
     };
     let chroma = |plane, sigma16| {
-        let grain = grain::chroma_noise_gate(s0, d0, s1, d1, plane, sigma16)?;
-        let planes = [s0, d0, s1, d1].map(|frame| frame.chroma(plane));
+        let grain = grain::chroma_noise_gate(&frames, plane, sigma16)?;
+        let planes = frames.frames().map(|frame| frame.chroma(plane));
         let size = (shape.chroma_width(), shape.chroma_height());
         Gate::new(grain, LEAST_SIGMA[1], sigma16, planes, size, shape.depth)
     };
+    let colour = shape.format != Format::Monochrome;
     let asked = |refusal| second.refused(refusal);
     let chroma = |plane, sigma16| colour.then(|| chroma(plane, sigma16)).transpose();
     Ok(Planes {
@@ -282,9 +271,10 @@ fn gates(first: &Still, second: &Still, estimate: &NoiseEstimate) -> Result<Plan
 
 /// The autocorrelation of each plane's noise.
 pub fn autocorrelation(still: &Still) -> Result<Planes<Autocorrelation>> {
-    let (source, denoised) = (still.source(), still.denoised()?);
-    let of = |s, d, width| Autocorrelation::of(&noise(s, d), width);
-    let (shape, colour) = (source.shape, source.shape.format != Format::Monochrome);
+    let pair = still.pair()?;
+    let (source, denoised, shape) = (pair.frame(), pair.denoised(), pair.shape());
+    let of = |source, denoised, width| Autocorrelation::of(&noise(source, denoised), width);
+    let colour = shape.format != Format::Monochrome;
     Ok(Planes {
         y: of(source.y, denoised.y, shape.width),
         cb: colour.then(|| of(source.cb, denoised.cb, shape.chroma_width())),

@@ -1,9 +1,9 @@
 //! A clip with its denoised copy, handed out frame by frame to every core.
 
-use crate::clip::{Picture, Reader, format_name};
+use crate::clip::{Picture, Reader};
 use crate::progress::Progress;
 use anyhow::{Error, Result, anyhow, bail};
-use grain::{Frame, Refusal, Shape};
+use grain::{Frame, Pair, Refusal, Shape};
 use rayon::prelude::*;
 use std::path::Path;
 use std::sync::{Arc, OnceLock};
@@ -22,7 +22,7 @@ pub struct Still {
 }
 
 impl Still {
-    pub fn source(&self) -> Frame<'_> {
+    fn source(&self) -> Frame<'_> {
         self.source.lent(self.shape)
     }
 
@@ -36,13 +36,14 @@ impl Still {
         made.as_ref().map_err(|&refusal| self.refused(refusal))
     }
 
-    pub fn denoised(&self) -> Result<Frame<'_>> {
-        Ok(self.denoised_picture()?.lent(self.shape))
+    pub fn pair(&self) -> Result<Pair<'_>> {
+        let denoised = self.denoised_picture()?.lent(self.shape);
+        Ok(Pair::new(self.source(), denoised)?)
     }
 
     /// What to say where a call refuses this frame.
     pub fn refused(&self, refusal: Refusal) -> Error {
-        let Shape { depth, .. } = self.shape;
+        let depth = self.shape.depth;
         let highest = (1u32 << depth) - 1;
         let words = match refusal {
             Refusal::SampleAboveDepth => {
@@ -99,8 +100,8 @@ impl Reel {
                 "{} is no denoised copy of {}: it is {}, not {}",
                 copy.name,
                 clip.name,
-                shape_words(copy.header.shape),
-                shape_words(clip.header.shape)
+                copy.header.shape,
+                clip.header.shape
             );
         }
         let name = match &copy {
@@ -246,14 +247,4 @@ fn both(clip: &str, copy: &str, of_clip: bool, of_copy: bool, at: usize) -> Resu
         _ => return Ok(()),
     };
     bail!("{short} ends after {at} frames and {long} has more: --frames {at} takes what both have");
-}
-
-fn shape_words(shape: Shape) -> String {
-    format!(
-        "{}×{}, {} bits, {}",
-        shape.width,
-        shape.height,
-        shape.depth,
-        format_name(shape.format)
-    )
 }

@@ -1,6 +1,5 @@
 //! The figures of a clip: its frames' figures taken together. Field names are those of the JSON report.
 
-use crate::clip::format_name;
 use crate::figures::{ChromaFit, ChromaTaps, Fit, FrameFigures, Gate, Planes, Profile};
 use crate::reel::Reel;
 use serde::Serialize;
@@ -74,7 +73,7 @@ impl ClipFigures {
             width: shape.width,
             height: shape.height,
             depth: shape.depth,
-            format: format_name(shape.format),
+            format: shape.format.name(),
             frames: reel.frames(),
             reported: frames.len(),
             profile: gathered(frames.iter().map(|f| &f.profile), pooled).expect("a frame"),

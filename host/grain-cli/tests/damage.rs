@@ -6,12 +6,7 @@ use common::{Planes, clip, folder, run, said, sample};
 use grain::{Format, Refusal, Shape};
 use std::fs;
 
-const SHAPE: Shape = Shape {
-    width: 16,
-    height: 8,
-    depth: 10,
-    format: Format::Yuv420,
-};
+const SHAPE: Shape = Shape::new(16, 8, 10, Format::Yuv420);
 
 /// What is said of a clip with these bytes.
 fn of(name: &str, bytes: &[u8]) -> String {
@@ -67,7 +62,7 @@ fn unknown_header() {
             "YUV4MPEG2 W16 H8 F1:1 C411\n",
             "the colour space C411, which isn't read. These are: mono, mono10",
         ),
-        ("deep", "YUV4MPEG2 W16 H8 F1:1 C420p16\n", "C420p16"),
+        ("depth-16", "YUV4MPEG2 W16 H8 F1:1 C420p16\n", "C420p16"),
         (
             "width",
             "YUV4MPEG2 Wide H8 F1:1 C420\n",
@@ -167,10 +162,7 @@ fn another_shape() {
     let folder = folder("shapes");
     fs::write(folder.join("clip.y4m"), clip(&frames(2))).unwrap();
     fs::write(folder.join("short.y4m"), clip(&frames(1))).unwrap();
-    let shape = Shape {
-        format: Format::Yuv422,
-        ..SHAPE
-    };
+    let shape = Shape::new(16, 8, 10, Format::Yuv422);
     fs::write(folder.join("other.y4m"), clip(&[Planes::random(shape, 1)])).unwrap();
     let with = |clip, copy| said(&folder, &["report", clip, "--denoised", copy]);
     let words = with("clip.y4m", "other.y4m");

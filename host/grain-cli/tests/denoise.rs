@@ -51,12 +51,7 @@ fn another_reader_finds_the_denoised_planes() {
 #[test]
 fn a_frame_s_own_words_are_kept() {
     let folder = folder("words");
-    let shape = Shape {
-        width: 2,
-        height: 1,
-        depth: 8,
-        format: Format::Monochrome,
-    };
+    let shape = Shape::new(2, 1, 8, Format::Monochrome);
     let head = header(shape) + "\nFRAME Ixyz\n";
     fs::write(folder.join("in.y4m"), [head.as_bytes(), &[0, 16]].concat()).unwrap();
     written(&folder, &["denoise", "in.y4m", "in.y4m"]);

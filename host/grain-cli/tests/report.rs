@@ -3,7 +3,7 @@
 mod common;
 
 use common::{Planes, clip, command, folder, json, run, sample, shapes, written};
-use grain::{Chroma, Format, Frame, Shape};
+use grain::{Chroma, Format, Pair, Shape, TwoFrames};
 use serde_json::{Value, json};
 use std::fs;
 use std::io::{Read, Write};
@@ -102,43 +102,41 @@ fn the_table_has_the_neighbourhood() {
 }
 
 /// The library's figures of one frame, laid out as the report has them.
-fn frame_figures(at: usize, frames: &[(Planes, Planes)]) -> Value {
-    let (source, denoised) = (frames[at].0.lent(), frames[at].1.lent());
-    let estimate = grain::noise_estimate(&source, &denoised).unwrap();
-    let colour = source.shape.format != Format::Monochrome;
+fn frame_figures<'a>(at: usize, frames: &'a [(Planes, Planes)]) -> Value {
+    let pair = |(frame, copy): &'a (Planes, Planes)| Pair::new(frame.lent(), copy.lent()).unwrap();
+    let first = pair(&frames[at]);
+    let estimate = grain::noise_estimate(&first).unwrap();
+    let colour = first.shape().format != Format::Monochrome;
     let steps = |sigma16: u64| sigma16 as f64 / 16.0;
     let chroma = |value: Value| if colour { value } else { Value::Null };
     let fits: Vec<Value> = (1..=3)
-        .map(
-            |lag| match grain::fit_ar_lag(&source, &denoised, lag).unwrap() {
-                None => Value::Null,
-                Some(fit) => {
-                    let split = |list: &[i32]| {
-                        let (tap, list) = list.split_last().unwrap();
-                        chroma(json!({"coefficients": list, "luma_tap": tap}))
-                    };
-                    json!({"lag": lag, "y": fit.y, "cb": split(&fit.cb), "cr": split(&fit.cr)})
-                }
-            },
-        )
+        .map(|lag| match grain::fit_ar_lag(&first, lag).unwrap() {
+            None => Value::Null,
+            Some(fit) => {
+                let split = |list: &[i32]| {
+                    let (tap, list) = list.split_last().unwrap();
+                    chroma(json!({"coefficients": list, "luma_tap": tap}))
+                };
+                json!({"lag": lag, "y": fit.y, "cb": split(&fit.cb), "cr": split(&fit.cr)})
+            }
+        })
         .collect();
     let gates = frames.get(at + 1).map(|next| {
-        let pair: [Frame; 4] = [source, denoised, next.0.lent(), next.1.lent()];
-        let [a, b, c, d] = &pair;
+        let frames = TwoFrames::new(first, pair(next)).unwrap();
         let gate = |plane, sigma16| {
             chroma(json!([
                 steps(sigma16),
-                grain::chroma_noise_gate(a, b, c, d, plane, sigma16).unwrap()
+                grain::chroma_noise_gate(&frames, plane, sigma16).unwrap()
             ]))
         };
-        let luma = grain::film_grain_probe(a, b, c, d).unwrap();
+        let luma = grain::film_grain_probe(&frames).unwrap();
         json!({
             "y": [steps(estimate.luma.sigma16), luma],
             "cb": gate(Chroma::Cb, estimate.cb.sigma16),
             "cr": gate(Chroma::Cr, estimate.cr.sigma16),
         })
     });
-    let taps = grain::fit_chroma_corr(&source, &denoised).unwrap();
+    let taps = grain::fit_chroma_corr(&first).unwrap();
     json!({
         "frame": at,
         "seed": grain::grain_seed_for(at as u32),
@@ -216,12 +214,7 @@ fn every_format_and_depth_has_the_library_s_figures() {
 #[test]
 fn a_gate_that_says_no_says_why() {
     let folder = folder("why");
-    let shape = Shape {
-        width: 32,
-        height: 32,
-        depth: 8,
-        format: Format::Yuv444,
-    };
+    let shape = Shape::new(32, 32, 8, Format::Yuv444);
     let filled = |sample: fn(u16) -> u16| Planes {
         shape,
         planes: [0, 1, 2].map(|_| (0..1024).map(sample).collect()),

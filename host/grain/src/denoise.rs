@@ -10,10 +10,8 @@ use crate::{Frame, Refusal, sys};
 /// # Ok::<(), grain::Refusal>(())
 /// ```
 pub fn denoise_plane(src: &[u16], dst: &mut [u16], w: usize, h: usize) -> Result<(), Refusal> {
-    // SAFETY: each pointer is a slice's own, with the slice's length; `dst` is lent alone.
-    accepted(unsafe {
-        sys::grain_denoise_plane(src.as_ptr(), src.len(), dst.as_mut_ptr(), dst.len(), w, h)
-    })
+    // SAFETY: `dst` is borrowed alone.
+    accepted(unsafe { sys::call!(grain_denoise_plane, [], [src], mut [dst], [w, h]) })
 }
 
 /// Writes the denoised planes of a frame.
@@ -21,8 +19,8 @@ pub fn denoise_plane(src: &[u16], dst: &mut [u16], w: usize, h: usize) -> Result
 /// ```
 /// use grain::{Format, Frame, Shape};
 ///
-/// let shape = Shape { width: 2, height: 1, depth: 8, format: Format::Monochrome };
-/// let frame = Frame { shape, y: &[0, 16], cb: &[], cr: &[] };
+/// let shape = Shape::new(2, 1, 8, Format::Monochrome);
+/// let frame = Frame::new(shape, &[0, 16], &[], &[]);
 /// let mut y = [0; 2];
 /// grain::denoise_frame(&frame, &mut y, &mut [], &mut [])?;
 /// assert_eq!(y, [4, 12]);
@@ -34,22 +32,9 @@ pub fn denoise_frame(
     cb: &mut [u16],
     cr: &mut [u16],
 ) -> Result<(), Refusal> {
-    // SAFETY: each pointer is a slice's own, with the slice's length; the destinations are lent alone.
+    let shape = frame.shape.into();
+    // SAFETY: each destination is borrowed alone.
     accepted(unsafe {
-        sys::grain_denoise_frame(
-            frame.shape.lent(),
-            frame.y.as_ptr(),
-            frame.y.len(),
-            frame.cb.as_ptr(),
-            frame.cb.len(),
-            frame.cr.as_ptr(),
-            frame.cr.len(),
-            y.as_mut_ptr(),
-            y.len(),
-            cb.as_mut_ptr(),
-            cb.len(),
-            cr.as_mut_ptr(),
-            cr.len(),
-        )
+        sys::call!(grain_denoise_frame, [shape], [frame.y, frame.cb, frame.cr], mut [y, cb, cr], [])
     })
 }

@@ -1,9 +1,10 @@
-use crate::frame::of_frames;
+use crate::pair::of_pair;
 use crate::refusal::accepted;
-use crate::{Frame, Refusal, sys};
+use crate::{Pair, Refusal, sys};
 
 /// The luma tap of each chroma plane where no neighbour has one.
 #[derive(Debug, Clone, Copy, PartialEq, Eq)]
+#[non_exhaustive]
 pub struct ChromaCorr {
     pub cb: i32,
     pub cr: i32,
@@ -12,16 +13,17 @@ pub struct ChromaCorr {
 /// How far each chroma plane's noise follows luma's, quantised.
 ///
 /// ```
-/// use grain::{ChromaCorr, Format, Frame, Shape};
+/// use grain::{Format, Frame, Pair, Shape};
 ///
-/// let shape = Shape { width: 3, height: 1, depth: 8, format: Format::Yuv420 };
-/// let flat = Frame { shape, y: &[0; 3], cb: &[0; 2], cr: &[0; 2] };
-/// let frame = Frame { y: &[0, 4, 8], cb: &[1, 1], ..flat };
-/// assert_eq!(grain::fit_chroma_corr(&frame, &flat)?, ChromaCorr { cb: 9, cr: 0 });
-/// # Ok::<(), grain::Refusal>(())
+/// let shape = Shape::new(3, 1, 8, Format::Yuv420);
+/// let frame = Frame::new(shape, &[0, 4, 8], &[1, 1], &[0, 0]);
+/// let flat = Frame::new(shape, &[0; 3], &[0; 2], &[0; 2]);
+/// let found = grain::fit_chroma_corr(&Pair::new(frame, flat)?)?;
+/// assert_eq!((found.cb, found.cr), (9, 0));
+/// # Ok::<(), Box<dyn std::error::Error>>(())
 /// ```
-pub fn fit_chroma_corr(frame: &Frame, denoised: &Frame) -> Result<ChromaCorr, Refusal> {
-    let found = of_frames!(sys::grain_fit_chroma_corr, frame, denoised);
+pub fn fit_chroma_corr(pair: &Pair) -> Result<ChromaCorr, Refusal> {
+    let found = of_pair!(grain_fit_chroma_corr, pair);
     accepted(found.refusal).map(|()| ChromaCorr {
         cb: found.cb,
         cr: found.cr,
@@ -45,6 +47,7 @@ pub fn ar_positions(lag: usize) -> Result<Vec<(i32, i32)>, Refusal> {
 /// Auto-regressive coefficients from −128 to 127, in the order of [`ar_positions`]; `cb` and `cr` have one more, the
 /// luma tap.
 #[derive(Debug, Clone, PartialEq, Eq)]
+#[non_exhaustive]
 pub struct ArFit {
     pub lag: u8,
     pub y: Vec<i32>,
@@ -55,15 +58,15 @@ pub struct ArFit {
 /// The auto-regressive fit of a frame's noise at one lag, or `None` where there is no fit.
 ///
 /// ```
-/// use grain::{Format, Frame, Shape};
+/// use grain::{Format, Frame, Pair, Shape};
 ///
-/// let shape = Shape { width: 5, height: 2, depth: 8, format: Format::Monochrome };
-/// let flat = Frame { shape, y: &[9; 10], cb: &[], cr: &[] };
-/// assert_eq!(grain::fit_ar_lag(&flat, &flat, 1)?, None);
-/// # Ok::<(), grain::Refusal>(())
+/// let shape = Shape::new(5, 2, 8, Format::Monochrome);
+/// let flat = Frame::new(shape, &[9; 10], &[], &[]);
+/// assert_eq!(grain::fit_ar_lag(&Pair::new(flat, flat)?, 1)?, None);
+/// # Ok::<(), Box<dyn std::error::Error>>(())
 /// ```
-pub fn fit_ar_lag(frame: &Frame, denoised: &Frame, lag: usize) -> Result<Option<ArFit>, Refusal> {
-    let found = of_frames!(sys::grain_fit_ar_lag, frame, denoised, lag);
+pub fn fit_ar_lag(pair: &Pair, lag: usize) -> Result<Option<ArFit>, Refusal> {
+    let found = of_pair!(grain_fit_ar_lag, pair, lag);
     accepted(found.refusal)?;
     Ok(found.found.then(|| ArFit {
         lag: lag as u8,

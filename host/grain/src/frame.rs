@@ -1,5 +1,8 @@
-use crate::Refusal;
-use crate::sys;
+use crate::{Refusal, sys};
+use std::fmt;
+
+/// Width and height are at most this.
+pub const SIDE_LIMIT: usize = 4096;
 
 /// Which chroma planes a frame has.
 #[derive(Debug, Clone, Copy, PartialEq, Eq, Hash)]
@@ -9,6 +12,18 @@ pub enum Format {
     Yuv420 = 1,
     Yuv422 = 2,
     Yuv444 = 3,
+}
+
+impl Format {
+    /// "mono", "4:2:0", "4:2:2" or "4:4:4".
+    pub const fn name(self) -> &'static str {
+        match self {
+            Format::Monochrome => "mono",
+            Format::Yuv420 => "4:2:0",
+            Format::Yuv422 => "4:2:2",
+            Format::Yuv444 => "4:4:4",
+        }
+    }
 }
 
 impl TryFrom<u8> for Format {
@@ -32,7 +47,16 @@ impl TryFrom<u8> for Format {
 }
 
 /// A frame's size in luma samples, its depth in bits (8, 10 or 12) and its format.
+///
+/// ```
+/// use grain::{Format, Shape};
+///
+/// let shape = Shape::new(5, 3, 8, Format::Yuv422);
+/// assert_eq!((shape.luma_samples(), shape.chroma_samples()), (15, 9));
+/// assert_eq!(shape.to_string(), "5×3, 8 bits, 4:2:2");
+/// ```
 #[derive(Debug, Clone, Copy, PartialEq, Eq, Hash)]
+#[non_exhaustive]
 pub struct Shape {
     pub width: usize,
     pub height: usize,
@@ -41,14 +65,17 @@ pub struct Shape {
 }
 
 impl Shape {
+    /// Any numbers make a shape; a call asks about them.
+    pub const fn new(width: usize, height: usize, depth: u8, format: Format) -> Self {
+        Self {
+            width,
+            height,
+            depth,
+            format,
+        }
+    }
+
     /// 0 of a monochrome frame, half of luma's rounded up in 4:2:0 and 4:2:2, luma's in 4:4:4.
-    ///
-    /// ```
-    /// use grain::{Format, Shape};
-    ///
-    /// let shape = Shape { width: 5, height: 3, depth: 8, format: Format::Yuv422 };
-    /// assert_eq!((shape.chroma_width(), shape.chroma_height()), (3, 3));
-    /// ```
     pub const fn chroma_width(&self) -> usize {
         match self.format {
             Format::Monochrome => 0,
@@ -75,21 +102,29 @@ impl Shape {
     pub const fn chroma_samples(&self) -> usize {
         self.chroma_width().saturating_mul(self.chroma_height())
     }
+}
 
-    pub(crate) fn lent(&self) -> sys::Shape {
+impl fmt::Display for Shape {
+    fn fmt(&self, f: &mut fmt::Formatter<'_>) -> fmt::Result {
+        let (w, h, depth, format) = (self.width, self.height, self.depth, self.format.name());
+        write!(f, "{w}×{h}, {depth} bits, {format}")
+    }
+}
+
+impl From<Shape> for sys::Shape {
+    fn from(shape: Shape) -> Self {
         sys::Shape {
-            width: self.width,
-            height: self.height,
-            depth: self.depth,
-            format: self.format as u8,
+            width: shape.width,
+            height: shape.height,
+            depth: shape.depth,
+            format: shape.format as u8,
         }
     }
 }
 
 /// A frame's planes in row order, with its shape. A monochrome frame's `cb` and `cr` are empty.
-///
-/// Where a call takes several frames, they are of one shape: the first one's, by which every plane is asked about.
 #[derive(Debug, Clone, Copy)]
+#[non_exhaustive]
 pub struct Frame<'a> {
     pub shape: Shape,
     pub y: &'a [u16],
@@ -105,6 +140,11 @@ pub enum Chroma {
 }
 
 impl<'a> Frame<'a> {
+    /// Planes of any lengths make a frame; a call asks about them.
+    pub const fn new(shape: Shape, y: &'a [u16], cb: &'a [u16], cr: &'a [u16]) -> Self {
+        Self { shape, y, cb, cr }
+    }
+
     /// The plane of one component.
     pub fn chroma(&self, plane: Chroma) -> &'a [u16] {
         match plane {
@@ -113,30 +153,3 @@ impl<'a> Frame<'a> {
         }
     }
 }
-
-/// What a call of the C interface answers of a frame and its denoised copy, and of what else it takes.
-macro_rules! of_frames {
-    ($call:path, $frame:expr, $denoised:expr $(, $more:expr)*) => {{
-        let (frame, denoised): (&$crate::Frame, &$crate::Frame) = ($frame, $denoised);
-        // SAFETY: each pointer is a slice's own, with the slice's length.
-        unsafe {
-            $call(
-                frame.shape.lent(),
-                frame.y.as_ptr(),
-                frame.y.len(),
-                frame.cb.as_ptr(),
-                frame.cb.len(),
-                frame.cr.as_ptr(),
-                frame.cr.len(),
-                denoised.y.as_ptr(),
-                denoised.y.len(),
-                denoised.cb.as_ptr(),
-                denoised.cb.len(),
-                denoised.cr.as_ptr(),
-                denoised.cr.len(),
-                $($more,)*
-            )
-        }
-    }};
-}
-pub(crate) use of_frames;

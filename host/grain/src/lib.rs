@@ -5,27 +5,34 @@
 //! width and height are at most 4,096, and the depth is 8, 10 or 12 bits. A call asks its questions first and answers a
 //! [`Refusal`] with the first that fails, having changed nothing.
 //!
-//! ```
-//! use grain::{Format, Frame, Refusal, Shape};
+//! Frames that are compared, a frame and its denoised copy or two such pairs, travel as one value ([`Pair`],
+//! [`TwoFrames`]), which can be made of frames of one shape only.
 //!
-//! let shape = Shape { width: 64, height: 64, depth: 10, format: Format::Monochrome };
+//! ```
+//! use grain::{Format, Frame, Pair, Refusal, Shape};
+//!
+//! let shape = Shape::new(64, 64, 10, Format::Monochrome);
 //! let y: Vec<u16> = (0..4096u32).map(|i| 512 + (i * i % 11) as u16).collect();
-//! let frame = Frame { shape, y: &y, cb: &[], cr: &[] };
+//! let frame = Frame::new(shape, &y, &[], &[]);
 //!
 //! let mut clean = vec![0; shape.luma_samples()];
 //! grain::denoise_frame(&frame, &mut clean, &mut [], &mut [])?;
-//! let denoised = Frame { y: &clean, ..frame };
-//!
-//! let profile = grain::noise_estimate(&frame, &denoised)?;
+//! let pair = Pair::new(frame, Frame::new(shape, &clean, &[], &[]))?;
+//! let profile = grain::noise_estimate(&pair)?;
 //! assert_eq!(profile.luma.bins[4].count, 4096);
-//! assert_eq!(grain::noise_estimate(&frame, &Frame { y: &clean[1..], ..frame }), Err(Refusal::PlaneLength));
-//! # Ok::<(), Refusal>(())
+//!
+//! let short = Pair::new(frame, Frame::new(shape, &clean[1..], &[], &[]))?;
+//! assert_eq!(grain::noise_estimate(&short), Err(Refusal::PlaneLength));
+//! # Ok::<(), Box<dyn std::error::Error>>(())
 //! ```
+//!
+//! Shapes, refusals and answers may gain fields and cases in later versions.
 
 mod denoise;
 mod fit;
 mod frame;
 mod gate;
+mod pair;
 mod profile;
 mod random;
 mod refusal;
@@ -35,8 +42,9 @@ pub use denoise::{denoise_frame, denoise_plane};
 pub use fit::{
     ArFit, ChromaCorr, ar_positions, fit_ar_lag, fit_chroma_corr, quant_ar, solve_normal,
 };
-pub use frame::{Chroma, Format, Frame, Shape};
+pub use frame::{Chroma, Format, Frame, SIDE_LIMIT, Shape};
 pub use gate::{chroma_noise_gate, film_grain_probe, lag_h_rho};
+pub use pair::{Pair, ShapeMismatch, TwoFrames};
 pub use profile::{Bin, NoiseEstimate, Profile, noise_estimate, plane_sigma16};
 pub use random::{RandomRegister, grain_seed_for};
 pub use refusal::Refusal;

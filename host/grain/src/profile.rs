@@ -1,6 +1,6 @@
-use crate::frame::of_frames;
+use crate::pair::of_pair;
 use crate::refusal::accepted;
-use crate::{Frame, Refusal, sys};
+use crate::{Pair, Refusal, sys};
 
 /// Sixteen times the noise's root mean square, in 8-bit steps, to the nearest whole number; 0 of an empty plane.
 ///
@@ -15,23 +15,14 @@ pub fn plane_sigma16(
     h: usize,
     depth: u8,
 ) -> Result<u64, Refusal> {
-    // SAFETY: each pointer is a slice's own, with the slice's length.
-    let found = unsafe {
-        sys::grain_plane_sigma16(
-            src.as_ptr(),
-            src.len(),
-            den.as_ptr(),
-            den.len(),
-            w,
-            h,
-            depth,
-        )
-    };
+    // SAFETY: the slices are borrowed, and none is written.
+    let found = unsafe { sys::call!(grain_plane_sigma16, [], [src, den], [w, h, depth]) };
     accepted(found.refusal).map(|()| found.sigma16)
 }
 
 /// The noise of the samples of one range of intensities.
 #[derive(Debug, Clone, Copy, PartialEq, Eq)]
+#[non_exhaustive]
 pub struct Bin {
     /// The bin's own sigma16, or the plane's where the bin has too few samples.
     pub sigma16: u64,
@@ -43,6 +34,7 @@ pub struct Bin {
 
 /// The noise of a plane, whole and by intensity.
 #[derive(Debug, Clone, Copy, PartialEq, Eq)]
+#[non_exhaustive]
 pub struct Profile<const BINS: usize> {
     pub sigma16: u64,
     pub bins: [Bin; BINS],
@@ -50,6 +42,7 @@ pub struct Profile<const BINS: usize> {
 
 /// The noise profile of a frame: eight luma bins, four of each chroma plane.
 #[derive(Debug, Clone, Copy, PartialEq, Eq)]
+#[non_exhaustive]
 pub struct NoiseEstimate {
     pub luma: Profile<8>,
     pub cb: Profile<4>,
@@ -72,19 +65,19 @@ impl<const BINS: usize> From<sys::Profile<BINS>> for Profile<BINS> {
 /// The noise profile of a frame against its denoised copy.
 ///
 /// ```
-/// use grain::{Format, Frame, Shape};
+/// use grain::{Format, Frame, Pair, Shape};
 ///
-/// let shape = Shape { width: 16, height: 8, depth: 8, format: Format::Monochrome };
-/// let frame = Frame { shape, y: &[33; 128], cb: &[], cr: &[] };
-/// let denoised = Frame { y: &[31; 128], ..frame };
-/// let found = grain::noise_estimate(&frame, &denoised)?;
+/// let shape = Shape::new(16, 8, 8, Format::Monochrome);
+/// let frame = Frame::new(shape, &[33; 128], &[], &[]);
+/// let denoised = Frame::new(shape, &[31; 128], &[], &[]);
+/// let found = grain::noise_estimate(&Pair::new(frame, denoised)?)?;
 /// assert_eq!(found.luma.sigma16, 32);
 /// assert_eq!((found.luma.bins[1].count, found.luma.bins[1].squares), (128, 512));
 /// assert_eq!(found.cb.sigma16, 0);
-/// # Ok::<(), grain::Refusal>(())
+/// # Ok::<(), Box<dyn std::error::Error>>(())
 /// ```
-pub fn noise_estimate(frame: &Frame, denoised: &Frame) -> Result<NoiseEstimate, Refusal> {
-    let found = of_frames!(sys::grain_noise_estimate, frame, denoised);
+pub fn noise_estimate(pair: &Pair) -> Result<NoiseEstimate, Refusal> {
+    let found = of_pair!(grain_noise_estimate, pair);
     accepted(found.refusal).map(|()| NoiseEstimate {
         luma: found.luma.into(),
         cb: found.cb.into(),

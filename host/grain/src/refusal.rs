@@ -1,72 +1,75 @@
 use std::error::Error;
 use std::fmt;
+use std::num::NonZeroU32;
 
-/// The first question that a call's arguments failed. A refused call has changed nothing.
-///
-/// ```
-/// use grain::{Refusal, plane_sigma16};
-///
-/// let refused = plane_sigma16(&[256], &[0], 1, 1, 8).unwrap_err();
-/// assert_eq!(refused, Refusal::SampleAboveDepth);
-/// assert_eq!(refused.number(), 6);
-/// assert_eq!(
-///     refused.to_string(),
-///     "In a call with a depth, is every source and denoised sample below 2^depth? No: 6"
-/// );
-/// ```
-#[derive(Debug, Clone, Copy, PartialEq, Eq, Hash)]
-#[repr(u32)]
-pub enum Refusal {
-    SideAbove4096 = 1,
-    EmptyFrame = 2,
-    Depth = 3,
-    Format = 4,
-    PlaneLength = 5,
-    SampleAboveDepth = 6,
-    LagAbove3 = 7,
-    SolverOrder = 8,
-    RegisterBits = 9,
+/// Declares the refusals, each in one row: its name, its number in the C interface, and the question that was failed.
+macro_rules! refusals {
+    ($($name:ident $number:literal $question:literal)*) => {
+        /// The first question that a call's arguments failed. A refused call has changed nothing.
+        ///
+        /// ```
+        /// use grain::{Refusal, plane_sigma16};
+        ///
+        /// let refused = plane_sigma16(&[256], &[0], 1, 1, 8).unwrap_err();
+        /// assert_eq!(refused, Refusal::SampleAboveDepth);
+        /// assert_eq!(refused.number(), 6);
+        /// assert_eq!(
+        ///     refused.to_string(),
+        ///     "In a call with a depth, is every source and denoised sample below 2^depth? No: 6"
+        /// );
+        /// ```
+        #[derive(Debug, Clone, Copy, PartialEq, Eq, Hash)]
+        #[non_exhaustive]
+        pub enum Refusal {
+            $(#[doc = $question] $name,)*
+            /// A number that has no name here: libgrain.a is newer than this crate.
+            Unknown(u32),
+        }
+
+        impl Refusal {
+            /// Every refusal that has a name, in the order in which the questions are asked.
+            pub const ALL: &'static [Refusal] = &[$(Refusal::$name),*];
+
+            /// As the C interface has it.
+            pub const fn number(self) -> u32 {
+                match self {
+                    $(Refusal::$name => $number,)*
+                    Refusal::Unknown(number) => number,
+                }
+            }
+
+            /// The question, to which the answer was no.
+            pub const fn question(self) -> &'static str {
+                match self {
+                    $(Refusal::$name => $question,)*
+                    Refusal::Unknown(_) => {
+                        "Does the call pass a question of libgrain.a that this crate has no words for?"
+                    }
+                }
+            }
+        }
+
+        impl From<NonZeroU32> for Refusal {
+            fn from(number: NonZeroU32) -> Self {
+                match number.get() {
+                    $($number => Refusal::$name,)*
+                    number => Refusal::Unknown(number),
+                }
+            }
+        }
+    };
 }
 
-impl Refusal {
-    /// Every refusal, in the order in which the questions are asked.
-    pub const ALL: [Refusal; 9] = [
-        Refusal::SideAbove4096,
-        Refusal::EmptyFrame,
-        Refusal::Depth,
-        Refusal::Format,
-        Refusal::PlaneLength,
-        Refusal::SampleAboveDepth,
-        Refusal::LagAbove3,
-        Refusal::SolverOrder,
-        Refusal::RegisterBits,
-    ];
-
-    /// 1 to 9, as the C interface has it.
-    pub const fn number(self) -> u32 {
-        self as u32
-    }
-
-    /// The question, to which the answer was no.
-    pub const fn question(self) -> &'static str {
-        match self {
-            Refusal::SideAbove4096 => "Are width and height each at most 4,096?",
-            Refusal::EmptyFrame => {
-                "In a frame call (profile, fit, chroma correlation, gate, frame denoise), are both at least 1?"
-            }
-            Refusal::Depth => "Is the depth 8, 10 or 12?",
-            Refusal::Format => "Is the format 0 to 3?",
-            Refusal::PlaneLength => {
-                "Has every lent plane, destinations included, exactly its number of samples?"
-            }
-            Refusal::SampleAboveDepth => {
-                "In a call with a depth, is every source and denoised sample below 2^depth?"
-            }
-            Refusal::LagAbove3 => "Is a fit's lag at most 3?",
-            Refusal::SolverOrder => "Is the solver's order 1 to 25?",
-            Refusal::RegisterBits => "Is the register asked for at most 16 bits?",
-        }
-    }
+refusals! {
+    SideAbove4096 1 "Are width and height each at most 4,096?"
+    EmptyFrame 2 "In a frame call (profile, fit, chroma correlation, gate, frame denoise), are both at least 1?"
+    Depth 3 "Is the depth 8, 10 or 12?"
+    Format 4 "Is the format 0 to 3?"
+    PlaneLength 5 "Has every lent plane, destinations included, exactly its number of samples?"
+    SampleAboveDepth 6 "In a call with a depth, is every source and denoised sample below 2^depth?"
+    LagAbove3 7 "Is a fit's lag at most 3?"
+    SolverOrder 8 "Is the solver's order 1 to 25?"
+    RegisterBits 9 "Is the register asked for at most 16 bits?"
 }
 
 impl fmt::Display for Refusal {
@@ -77,10 +80,10 @@ impl fmt::Display for Refusal {
 
 impl Error for Refusal {}
 
-/// What a call's number says: 0 is accepted, and there is no number above 9.
+/// What the number of a call's answer says: 0 is accepted.
 pub(crate) fn accepted(number: u32) -> Result<(), Refusal> {
-    match number {
-        0 => Ok(()),
-        n => Err(Refusal::ALL[n as usize - 1]),
+    match NonZeroU32::new(number) {
+        None => Ok(()),
+        Some(number) => Err(number.into()),
     }
 }

@@ -113,6 +113,32 @@ pub struct Draw {
     pub value: u32,
 }
 
+/// Calls a function of this interface with numbers, slices and numbers. A slice goes as its pointer and its length; those
+/// that are written stand in brackets of their own, after `mut`.
+///
+/// ```
+/// use grain::sys;
+///
+/// let (src, mut dst) = ([0, 16], [0, 0]);
+/// // SAFETY: each slice is alive, and the written one is no other.
+/// let refusal = unsafe { sys::call!(grain_denoise_plane, [], [src], mut [dst], [2, 1]) };
+/// assert_eq!((refusal, dst), (0, [4, 12]));
+/// ```
+#[doc(hidden)]
+#[macro_export]
+macro_rules! __call {
+    ($name:ident, [$($first:expr),*], [$($read:expr),*], $(mut [$($written:expr),*],)? [$($last:expr),*]) => {
+        $crate::sys::$name(
+            $($first,)*
+            $($read.as_ptr(), $read.len(),)*
+            $($($written.as_mut_ptr(), $written.len(),)*)?
+            $($last,)*
+        )
+    };
+}
+#[doc(inline)]
+pub use __call as call;
+
 unsafe extern "C" {
     pub fn grain_denoise_plane(
         src: *const u16,
@@ -131,12 +157,12 @@ unsafe extern "C" {
         cb_len: usize,
         cr: *const u16,
         cr_len: usize,
-        dy: *mut u16,
-        dy_len: usize,
-        dcb: *mut u16,
-        dcb_len: usize,
-        dcr: *mut u16,
-        dcr_len: usize,
+        y_den: *mut u16,
+        y_den_len: usize,
+        cb_den: *mut u16,
+        cb_den_len: usize,
+        cr_den: *mut u16,
+        cr_den_len: usize,
     ) -> u32;
 
     pub fn grain_plane_sigma16(
@@ -157,12 +183,12 @@ unsafe extern "C" {
         cb_len: usize,
         cr: *const u16,
         cr_len: usize,
-        dy: *const u16,
-        dy_len: usize,
-        dcb: *const u16,
-        dcb_len: usize,
-        dcr: *const u16,
-        dcr_len: usize,
+        y_den: *const u16,
+        y_den_len: usize,
+        cb_den: *const u16,
+        cb_den_len: usize,
+        cr_den: *const u16,
+        cr_den_len: usize,
     ) -> Estimate;
 
     pub fn grain_lag_h_rho(
@@ -178,26 +204,26 @@ unsafe extern "C" {
 
     pub fn grain_film_grain_probe(
         s: Shape,
-        y0: *const u16,
-        y0_len: usize,
-        d0: *const u16,
-        d0_len: usize,
-        y1: *const u16,
-        y1_len: usize,
-        d1: *const u16,
-        d1_len: usize,
+        src0: *const u16,
+        src0_len: usize,
+        den0: *const u16,
+        den0_len: usize,
+        src1: *const u16,
+        src1_len: usize,
+        den1: *const u16,
+        den1_len: usize,
     ) -> Gate;
 
     pub fn grain_chroma_noise_gate(
         s: Shape,
-        c0: *const u16,
-        c0_len: usize,
-        d0: *const u16,
-        d0_len: usize,
-        c1: *const u16,
-        c1_len: usize,
-        d1: *const u16,
-        d1_len: usize,
+        src0: *const u16,
+        src0_len: usize,
+        den0: *const u16,
+        den0_len: usize,
+        src1: *const u16,
+        src1_len: usize,
+        den1: *const u16,
+        den1_len: usize,
         sigma16: u64,
     ) -> Gate;
 
@@ -209,12 +235,12 @@ unsafe extern "C" {
         cb_len: usize,
         cr: *const u16,
         cr_len: usize,
-        dy: *const u16,
-        dy_len: usize,
-        dcb: *const u16,
-        dcb_len: usize,
-        dcr: *const u16,
-        dcr_len: usize,
+        y_den: *const u16,
+        y_den_len: usize,
+        cb_den: *const u16,
+        cb_den_len: usize,
+        cr_den: *const u16,
+        cr_den_len: usize,
     ) -> ChromaCorr;
 
     pub fn grain_quant_ar(x: f64) -> i32;
@@ -231,12 +257,12 @@ unsafe extern "C" {
         cb_len: usize,
         cr: *const u16,
         cr_len: usize,
-        dy: *const u16,
-        dy_len: usize,
-        dcb: *const u16,
-        dcb_len: usize,
-        dcr: *const u16,
-        dcr_len: usize,
+        y_den: *const u16,
+        y_den_len: usize,
+        cb_den: *const u16,
+        cb_den_len: usize,
+        cr_den: *const u16,
+        cr_den_len: usize,
         lag: usize,
     ) -> Fit;
 

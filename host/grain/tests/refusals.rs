@@ -1,21 +1,26 @@
 //! Each question once, through the safe functions: the refusal that answers it, and destinations left as they were.
 
 use grain::*;
+use std::collections::HashSet;
+use std::num::NonZeroU32;
 
-const SHAPE: Shape = Shape {
-    width: 3,
-    height: 2,
-    depth: 8,
-    format: Format::Yuv420,
-};
-const FRAME: Frame = Frame {
-    shape: SHAPE,
-    y: &[9; 6],
-    cb: &[9; 2],
-    cr: &[9; 2],
-};
+const SHAPE: Shape = Shape::new(3, 2, 8, Format::Yuv420);
+const FRAME: Frame = frame(SHAPE);
 
-/// A frame of that shape with the same planes, denoised; what the destinations hold afterwards stands beside the answer.
+/// The planes of [`SHAPE`], said to be of this shape.
+const fn frame(shape: Shape) -> Frame<'static> {
+    Frame::new(shape, &[9; 6], &[9; 2], &[9; 2])
+}
+
+fn pair<'a>(frame: Frame<'a>, denoised: Frame<'a>) -> Pair<'a> {
+    Pair::new(frame, denoised).expect("one shape")
+}
+
+fn twice(pair: Pair) -> TwoFrames {
+    TwoFrames::new(pair, pair).expect("one shape")
+}
+
+/// A frame of [`SHAPE`], denoised; what the destinations hold afterwards stands beside the answer.
 fn denoised(frame: &Frame) -> (Result<(), Refusal>, [u16; 10]) {
     let mut planes = [7; 10];
     let (y, rest) = planes.split_at_mut(6);
@@ -25,18 +30,15 @@ fn denoised(frame: &Frame) -> (Result<(), Refusal>, [u16; 10]) {
 }
 
 fn refused(shape: Shape, refusal: Refusal) {
-    let frame = Frame { shape, ..FRAME };
+    let frame = frame(shape);
+    let pair = pair(frame, frame);
     assert_eq!(denoised(&frame), (Err(refusal), [7; 10]));
-    assert_eq!(noise_estimate(&frame, &frame), Err(refusal));
-    assert_eq!(fit_chroma_corr(&frame, &frame), Err(refusal));
-    assert_eq!(fit_ar_lag(&frame, &frame, 4), Err(refusal));
-    assert_eq!(
-        film_grain_probe(&frame, &frame, &frame, &frame),
-        Err(refusal)
-    );
+    assert_eq!(noise_estimate(&pair), Err(refusal));
+    assert_eq!(fit_chroma_corr(&pair), Err(refusal));
+    assert_eq!(fit_ar_lag(&pair, 4), Err(refusal));
+    assert_eq!(film_grain_probe(&twice(pair)), Err(refusal));
     for plane in [Chroma::Cb, Chroma::Cr] {
-        let gate = chroma_noise_gate(&frame, &frame, &frame, &frame, plane, 8);
-        assert_eq!(gate, Err(refusal));
+        assert_eq!(chroma_noise_gate(&twice(pair), plane, 8), Err(refusal));
     }
 }
 
@@ -47,63 +49,44 @@ fn accepted() {
 
 #[test]
 fn numbers_of_a_shape() {
-    for width in [4097, usize::MAX] {
-        refused(Shape { width, ..SHAPE }, Refusal::SideAbove4096);
+    let of = |width, height, depth| Shape::new(width, height, depth, Format::Yuv420);
+    for width in [SIDE_LIMIT + 1, usize::MAX] {
+        refused(of(width, 2, 8), Refusal::SideAbove4096);
     }
-    refused(Shape { height: 0, ..SHAPE }, Refusal::EmptyFrame);
+    refused(of(3, 0, 8), Refusal::EmptyFrame);
     for depth in [0, 9, 16, 255] {
-        refused(Shape { depth, ..SHAPE }, Refusal::Depth);
+        refused(of(3, 2, depth), Refusal::Depth);
     }
-    refused(Shape { height: 3, ..SHAPE }, Refusal::PlaneLength);
+    refused(of(3, 3, 8), Refusal::PlaneLength);
 }
 
 /// The first question that fails is the one that is named.
 #[test]
 fn order_of_questions() {
-    let shape = Shape {
-        width: 4097,
-        height: 0,
-        depth: 9,
-        ..SHAPE
-    };
-    refused(shape, Refusal::SideAbove4096);
-    refused(Shape { width: 1, ..shape }, Refusal::EmptyFrame);
-    refused(
-        Shape {
-            width: 1,
-            height: 1,
-            ..shape
-        },
-        Refusal::Depth,
-    );
+    let of = |width, height| Shape::new(width, height, 9, Format::Yuv420);
+    refused(of(SIDE_LIMIT + 1, 0), Refusal::SideAbove4096);
+    refused(of(1, 0), Refusal::EmptyFrame);
+    refused(of(1, 1), Refusal::Depth);
 }
 
 #[test]
 fn planes() {
     let mut planes = [7; 5];
-    assert_eq!(
-        denoise_plane(&[9; 6], &mut planes, 3, 2),
-        Err(Refusal::PlaneLength)
-    );
-    assert_eq!(planes, [7; 5]);
-    assert_eq!(denoise_plane(&[], &mut [], 0, 4096), Ok(()));
+    let short = denoise_plane(&[9; 6], &mut planes, 3, 2);
+    assert_eq!((short, planes), (Err(Refusal::PlaneLength), [7; 5]));
+    assert_eq!(denoise_plane(&[], &mut [], 0, SIDE_LIMIT), Ok(()));
 
-    let high = Frame {
-        cr: &[9, 256],
-        ..FRAME
-    };
+    let high = Frame::new(SHAPE, FRAME.y, FRAME.cb, &[9, 256]);
+    let pair = pair(FRAME, high);
     assert_eq!(denoised(&high), (Err(Refusal::SampleAboveDepth), [7; 10]));
-    assert_eq!(
-        noise_estimate(&FRAME, &high),
-        Err(Refusal::SampleAboveDepth)
-    );
-    assert_eq!(film_grain_probe(&FRAME, &high, &FRAME, &high), Ok(false));
-    assert_eq!(fit_ar_lag(&FRAME, &high, 4), Err(Refusal::SampleAboveDepth));
+    assert_eq!(noise_estimate(&pair), Err(Refusal::SampleAboveDepth));
+    assert_eq!(film_grain_probe(&twice(pair)), Ok(false));
+    assert_eq!(fit_ar_lag(&pair, 4), Err(Refusal::SampleAboveDepth));
 }
 
 #[test]
 fn lag_order_and_bits() {
-    assert_eq!(fit_ar_lag(&FRAME, &FRAME, 4), Err(Refusal::LagAbove3));
+    assert_eq!(fit_ar_lag(&pair(FRAME, FRAME), 4), Err(Refusal::LagAbove3));
     assert_eq!(ar_positions(4), Err(Refusal::LagAbove3));
     assert_eq!(lag_h_rho(&[1; 6], &[0; 6], 3, 2, usize::MAX, 8), Ok(0.0));
     for order in [0, 26] {
@@ -115,10 +98,49 @@ fn lag_order_and_bits() {
     assert_eq!(register.next(16), Ok(32768));
 }
 
+fn of_number(number: u32) -> Refusal {
+    NonZeroU32::new(number).expect("a refusal's number").into()
+}
+
 #[test]
 fn numbers_and_words() {
-    for (at, refusal) in Refusal::ALL.into_iter().enumerate() {
-        assert_eq!(refusal.number() as usize, at + 1);
-        assert!(refusal.to_string().ends_with(&format!("? No: {}", at + 1)));
+    for &refusal in Refusal::ALL {
+        let number = refusal.number();
+        assert_eq!(of_number(number), refusal);
+        assert!(refusal.question().ends_with('?'));
+        assert_eq!(
+            refusal.to_string(),
+            format!("{} No: {number}", refusal.question())
+        );
+    }
+}
+
+/// The list at the head of include/grain.h, and the names here, are of the same numbers.
+#[test]
+fn numbers_of_the_header() {
+    let header = include_str!("../../../include/grain.h");
+    let listed = header.lines().filter_map(|line| {
+        let (number, question) = line.strip_prefix(" *   ")?.split_once("  ")?;
+        question.contains('?').then(|| number.parse().ok())?
+    });
+    let named = Refusal::ALL.iter().map(|refusal| refusal.number());
+    assert_eq!(
+        listed.collect::<HashSet<u32>>(),
+        named.collect::<HashSet<u32>>()
+    );
+}
+
+#[test]
+fn a_number_without_a_name() {
+    for number in [23, 1000, u32::MAX] {
+        let refusal = of_number(number);
+        assert_eq!(refusal, Refusal::Unknown(number));
+        assert_eq!(refusal.number(), number);
+        assert_eq!(
+            refusal.to_string(),
+            format!(
+                "Does the call pass a question of libgrain.a that this crate has no words for? No: {number}"
+            )
+        );
     }
 }

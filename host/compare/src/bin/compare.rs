@@ -3,8 +3,9 @@
 use compare::calls::CALLS;
 use compare::case::{Case, FORM};
 use compare::draw;
-use compare::input::Input;
-use compare::outcome::{due, ours};
+use compare::outcome::Comparison;
+use compare::questions::{QUESTIONS, Question};
+use std::collections::BTreeMap;
 use std::process::ExitCode;
 use std::sync::atomic::{AtomicU64, Ordering};
 use std::sync::{Mutex, PoisonError};
@@ -52,52 +53,51 @@ fn options() -> Result<Options, String> {
 struct Count {
     compared: u64,
     zero: u64,
-    refused: [u64; 9],
+    /// How often with each number.
+    refused: BTreeMap<u32, u64>,
 }
 
-fn differs(case: &Case) -> bool {
-    let input = Input::new(case);
-    ours(case, &input) != due(case, &input)
+impl Count {
+    fn add(&mut self, other: &Count) {
+        self.compared += other.compared;
+        self.zero += other.zero;
+        for (&number, times) in &other.refused {
+            *self.refused.entry(number).or_default() += times;
+        }
+    }
 }
 
 /// Compares one case and counts it; false where the two differ.
 fn compared(case: &Case, counts: &mut [Count]) -> bool {
-    let input = Input::new(case);
-    let due = due(case, &input);
+    let found = Comparison::new(case);
     let at = CALLS.iter().position(|call| call.name == case.call.name);
     let count = &mut counts[at.expect("a call of the table")];
     count.compared += 1;
-    count.zero += u64::from(due.is_zero());
-    if let Err(number) = due.answer {
-        count.refused[number as usize - 1] += 1;
+    count.zero += u64::from(found.due.is_zero());
+    if let Err(number) = found.due.answer {
+        *count.refused.entry(number).or_default() += 1;
     }
-    ours(case, &input) == due
-}
-
-/// Both outcomes of a case.
-fn show(case: &Case) {
-    let input = Input::new(case);
-    println!("  ours {}", ours(case, &input).shown());
-    println!("  due  {}", due(case, &input).shown());
+    found.agrees()
 }
 
 fn report(counts: &[Count]) {
-    let heads: Vec<String> = (1..=9).map(|n| format!("{n:>6}")).collect();
+    let cells = |of: &dyn Fn(u32) -> u64| -> String {
+        let cell = |question: &Question| format!("{:>6}", of(question.number));
+        QUESTIONS.iter().map(cell).collect()
+    };
+    let heads = cells(&|number| number.into());
     println!(
         "{:22}{:>9}{:>9}  refused with{}",
         "call",
         "compared",
         "zeros",
-        &heads.concat()[5..]
+        &heads[5..]
     );
     for (call, count) in CALLS.iter().zip(counts) {
-        let refused: Vec<String> = count.refused.iter().map(|n| format!("{n:>6}")).collect();
+        let refused = cells(&|number| count.refused.get(&number).copied().unwrap_or(0));
         println!(
-            "{:22}{:>9}{:>9}         {}",
-            call.name,
-            count.compared,
-            count.zero,
-            refused.concat()
+            "{:22}{:>9}{:>9}         {refused}",
+            call.name, count.compared, count.zero
         );
     }
 }
@@ -127,12 +127,7 @@ fn run(options: &Options) -> (Vec<Count>, Option<Case>) {
         }
         let mut sums = sums.lock().unwrap_or_else(PoisonError::into_inner);
         for (sum, count) in sums.0.iter_mut().zip(counts) {
-            sum.compared += count.compared;
-            sum.zero += count.zero;
-            sum.refused
-                .iter_mut()
-                .zip(count.refused)
-                .for_each(|(a, b)| *a += b);
+            sum.add(&count);
         }
     };
     thread::scope(|scope| {
@@ -152,18 +147,16 @@ fn main() -> ExitCode {
         }
     };
     if let Some(case) = &options.case {
-        println!("{case}");
-        show(case);
-        return ExitCode::from(u8::from(differs(case)));
+        let found = Comparison::new(case);
+        println!("{case}\n{found}");
+        return ExitCode::from(u8::from(!found.agrees()));
     }
     println!("seed {}, {} drawn cases", options.seed, options.calls);
     let (counts, different) = run(&options);
     if let Some(case) = different {
-        println!("differs: {case}");
-        show(&case);
-        let least = case.shrunk(differs);
-        println!("shrunk to: {least}");
-        show(&least);
+        println!("differs: {case}\n{}", Comparison::new(&case));
+        let least = case.shrunk(|case| !Comparison::new(case).agrees());
+        println!("shrunk to: {least}\n{}", Comparison::new(&least));
         println!("again: cargo run --release --bin compare -- --case {least}");
         return ExitCode::FAILURE;
     }

@@ -1,5 +1,5 @@
 use anyhow::{Context, Result, bail};
-use grain::{Format, Refusal, Shape};
+use grain::{Format, Refusal, SIDE_LIMIT, Shape};
 
 /// The word that begins a clip.
 pub const MAGIC: &str = "YUV4MPEG2";
@@ -61,22 +61,16 @@ impl Header {
             let names = COLOUR_SPACES.map(|(name, ..)| name).join(", ");
             bail!("the header has the colour space C{space}, which isn't read. These are: {names}");
         };
-        let failed = match (width.min(height), width.max(height)) {
-            (_, 4097..) => Some(Refusal::SideAbove4096),
-            (0, _) => Some(Refusal::EmptyFrame),
-            _ => None,
-        };
-        if let Some(refusal) = failed {
-            bail!("the frames are {width}×{height}. {refusal}");
+        let refuse = |refusal| bail!("the frames are {width}×{height}. {refusal}");
+        if width.max(height) > SIDE_LIMIT {
+            return refuse(Refusal::SideAbove4096);
+        }
+        if width.min(height) == 0 {
+            return refuse(Refusal::EmptyFrame);
         }
         Ok(Header {
             line: line.to_vec(),
-            shape: Shape {
-                width,
-                height,
-                depth,
-                format,
-            },
+            shape: Shape::new(width, height, depth, format),
             interlaced,
         })
     }
@@ -96,14 +90,4 @@ fn side(name: &str, word: &str, value: &str) -> Result<usize> {
     value
         .parse()
         .with_context(|| format!("the header's {name} isn't a number: {word:?}"))
-}
-
-/// "4:2:0" and the like.
-pub fn format_name(format: Format) -> &'static str {
-    match format {
-        Format::Monochrome => "mono",
-        Format::Yuv420 => "4:2:0",
-        Format::Yuv422 => "4:2:2",
-        Format::Yuv444 => "4:4:4",
-    }
 }

@@ -4,7 +4,7 @@ mod header;
 mod reader;
 mod writer;
 
-pub use header::{Header, format_name};
+pub use header::Header;
 pub use reader::Reader;
 pub use writer::Writer;
 
@@ -31,11 +31,6 @@ impl Picture {
 
     /// The planes lent to a call.
     pub fn lent(&self, shape: Shape) -> Frame<'_> {
-        Frame {
-            shape,
-            y: &self.y,
-            cb: &self.cb,
-            cr: &self.cr,
-        }
+        Frame::new(shape, &self.y, &self.cb, &self.cr)
     }
 }

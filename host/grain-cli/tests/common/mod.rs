@@ -16,14 +16,7 @@ pub fn shapes(width: usize, height: usize) -> impl Iterator<Item = Shape> {
         Format::Yuv444,
     ]
     .into_iter()
-    .flat_map(move |format| {
-        [8, 10, 12].map(|depth| Shape {
-            width,
-            height,
-            depth,
-            format,
-        })
-    })
+    .flat_map(move |format| [8, 10, 12].map(|depth| Shape::new(width, height, depth, format)))
 }
 
 /// A fresh folder for one test.
@@ -99,12 +92,7 @@ impl Planes {
 
     pub fn lent(&self) -> Frame<'_> {
         let [y, cb, cr] = &self.planes;
-        Frame {
-            shape: self.shape,
-            y,
-            cb,
-            cr,
-        }
+        Frame::new(self.shape, y, cb, cr)
     }
 
     pub fn denoised(&self) -> Self {
