@@ -14,8 +14,8 @@ use Rattle.noise.specs.Noise.{Pair}
 use Rattle.noise.specs.Products.{Factor, own}
 use Rattle.solve.specs.Elimination.{Row, Matrix}
 use Rattle.solve.specs.Answer.{solvedOf}
-use Rattle.solve.proofs.Alike.{Alike}
-use Rattle.solve.proofs.Used.{RowAlike, used-alone}
+use Rattle.solve.specs.Words.{Alike, RowAlike}
+use Rattle.solve.proofs.Used.{used-alone}
 use Rattle.fit.specs.Steps.{fitF, cellOf, rowOf, matrixOf, valueOf, rightOf, ataOf, atbOf, solvedFit}
 
 tables-alike : {A : Type 0} (R : A → A → Type 0) (d : A) (p : ℕ) → p ≤ 25 → (f g : ℕ → A) → ((i : ℕ) → i < p → R (f i) (g i)) → Alike R d p (tabulate 25 f) (tabulate p g)

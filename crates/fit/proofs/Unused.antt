@@ -12,14 +12,15 @@ use lib.Ieee.{mul, ofBits, toSigned}
 use Rattle.laws.specs.Scaled.{plusZero}
 use Rattle.laws.proofs.Table.{getD-tabulate}
 use Rattle.float.specs.Steps.{quantAr}
+use Rattle.frame.specs.Calls.{orderRefusal}
 use Rattle.frame.specs.declared.Shape.{Shape}
 use Rattle.noise.specs.Noise.{Pair}
 use Rattle.noise.specs.Products.{Factor}
 use Rattle.positions.specs.Counts.{neighbours, factors}
 use Rattle.solve.specs.Elimination.{value}
-use Rattle.solve.specs.Answer.{refusalOf}
 use Rattle.solve.specs.declared.Solved.{Solved}
-use Rattle.solve.proofs.Values.{Whole, solved-whole}
+use Rattle.solve.specs.Words.{Whole}
+use Rattle.solve.proofs.Values.{solved-whole}
 use Rattle.fit.specs.Steps.{neighbourOf, withTap, zeros, quantised, solvedFit, coefficientsOf, lumaFit, chromaFit}
 use Rattle.fit.specs.Answer.{firstOf, lumaOf, planeOf, fitAnswer}
 use Rattle.fit.specs.Words.{ZeroFrom}
@@ -39,7 +40,7 @@ solved-unused plane lag row p = go (r .found) refl
     r : Solved
     r = solvedFit plane lag row p
 
-    W : Whole (refusalOf p) p r
+    W : Whole (orderRefusal p) p r
     W = solved-whole _ _ p
 
     go : (b : Bool) → r .found ≡ b → ZeroFrom p 25 (cond b (quantised (r .solution .values)) zeros)

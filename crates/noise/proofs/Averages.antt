@@ -20,7 +20,7 @@ use Rattle.noise.specs.Noise.{noise, noiseOf}
 use Rattle.noise.specs.Average.{Luma, lumaPlace, quarters}
 use Rattle.noise.specs.Lines.{at, AtMost, noiseLimit, Places, Plane}
 use Rattle.noise.specs.Seen.{seen, noiseAt}
-use Rattle.noise.specs.Quarters.{sumAt, quartered, AverageRow}
+use Rattle.noise.specs.Quarters.{columnSum, quartered, AverageRow}
 use Rattle.noise.proofs.Seen.{plane-noise-le, seen-plane, noise-seen}
 use Rattle.noise.proofs.LineSums.{entry, size}
 use Rattle.noise.proofs.Quarters.{abs-add-le}
@@ -105,7 +105,7 @@ module _ (l : Luma) (r : ℕ) (R : Rows l r) where
     wide = size (l .plane .width) _ (T .sums-are)
 
     cell : (c j : ℕ) → c < sampled (l .sampling .across) (l .plane .width)
-        → sumAt (l .sampling .across) sums c j ≡ noise (l .plane .source) (l .plane .denoised) (lumaPlace l r c 0 j) +ℤ noise (l .plane .source) (l .plane .denoised) (lumaPlace l r c (l .sampling .down) j)
+        → columnSum (l .sampling .across) sums c j ≡ noise (l .plane .source) (l .plane .denoised) (lumaPlace l r c 0 j) +ℤ noise (l .plane .source) (l .plane .denoised) (lumaPlace l r c (l .sampling .down) j)
     cell c j k =
         let x = min (c * 2 ^ l .sampling .across + j) (l .plane .width - 1) in
         ap (λ (n : ℕ). at sums (min (c * 2 ^ l .sampling .across + j) (n - 1))) wide

@@ -11,11 +11,11 @@ use Rattle.noise.specs.Lines.{at}
 use Rattle.noise.specs.Seen.{Seen}
 
 -- from the sums of the two rows: at luma column j of chroma column c, where sub is 1 if the format halves the columns, else 0; and over both columns
-abbrev pub sumAt : ℕ → List ℤ → ℕ → ℕ → ℤ
-sumAt sub sums c j = at sums (min (c * 2 ^ sub + j) (length sums - 1))
+abbrev pub columnSum : ℕ → List ℤ → ℕ → ℕ → ℤ
+columnSum sub sums c j = at sums (min (c * 2 ^ sub + j) (length sums - 1))
 
 unfoldable pub quartered : ℕ → List ℤ → ℕ → ℤ
-quartered sub sums c = sumAt sub sums c 0 +ℤ sumAt sub sums c sub
+quartered sub sums c = columnSum sub sums c 0 +ℤ columnSum sub sums c sub
 
 -- a chroma row over the luma that a view shows, with a place for each luma column and for each average
 pub record AverageRow (v : View) (s : Sampling) (r : ℕ) (source denoised : List ℕ) (sums line : ℕ) : Type 0 where

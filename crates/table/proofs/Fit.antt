@@ -11,11 +11,11 @@ use Rattle.float.specs.Steps.{quantAr}
 use Rattle.noise.specs.Steps.{windowF}
 use Rattle.positions.specs.Positions as positions
 use Rattle.solve.specs.Elimination.{larger, pivotOf, pivoted, cellLess, rowLess, rowCleared, cleared, tested, column, eliminated, knownLess, unknownOf, placed, substituted}
-use Rattle.solve.specs.Answer.{refusalOf, answerOf, solvedOf}
+use Rattle.solve.specs.Answer.{answerOf, solvedOf}
 use Rattle.fit.specs.Steps.{fitF, cellOf, rowOf, matrixOf, valueOf, rightOf, solvedFit, quantised, coefficientsOf, energyF, lumaFit, chromaFit}
 use Rattle.fit.specs.Answer.{allZero, firstOf, fitOf, fitAnswer}
 use Rattle.table.specs.Fit.{fit, cases}
 
 pub cases-right : Right fit cases
-unfolding fitAnswer fitOf allZero firstOf lumaFit chromaFit energyF coefficientsOf quantised solvedFit rightOf valueOf matrixOf rowOf cellOf fitF fitRefusal copyQuestions frameNumbers shapeNumbers each low allLow chromaWidth chromaHeight solvedOf answerOf refusalOf larger pivotOf pivoted cellLess rowLess rowCleared cleared tested column eliminated knownLess unknownOf placed substituted magnitudeOf quantAr windowF turns loop add sub mul div lt le ofInt ofBits toSigned positions.positions positions.row positions.turn positions.body
+unfolding fitAnswer fitOf allZero firstOf lumaFit chromaFit energyF coefficientsOf quantised solvedFit rightOf valueOf matrixOf rowOf cellOf fitF fitRefusal copyQuestions frameNumbers shapeNumbers each low allLow chromaWidth chromaHeight solvedOf answerOf larger pivotOf pivoted cellLess rowLess rowCleared cleared tested column eliminated knownLess unknownOf placed substituted magnitudeOf quantAr windowF turns loop add sub mul div lt le ofInt ofBits toSigned positions.positions positions.row positions.turn positions.body
 cases-right = (refl, (refl, (refl, tt)))

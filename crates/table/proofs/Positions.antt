@@ -2,7 +2,7 @@
 use mathlib.Core.Path.{refl}
 use Rattle.table.specs.Cases.{Right}
 use Rattle.laws.specs.Loop.{turns, loop}
-use Rattle.positions.specs.Positions.{body, turn, row, positions, refusalOf, positionsOf}
+use Rattle.positions.specs.Positions.{body, turn, row, positions, positionsOf}
 use Rattle.positions.specs.Text.{upToSample, walkRow, walkRows, walk}
 use Rattle.table.specs.Positions.{orders, refusals}
 
@@ -15,5 +15,5 @@ unfolding upToSample walkRow walkRows walk
 walks-right = (refl, (refl, tt))
 
 pub refusals-right : Right positionsOf refusals
-unfolding refusalOf positionsOf
+unfolding positionsOf
 refusals-right = (refl, tt)

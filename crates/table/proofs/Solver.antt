@@ -5,9 +5,9 @@ use Rattle.laws.specs.Loop.{loop, turns}
 use Rattle.table.specs.Cases.{Right}
 use Rattle.float.specs.Magnitude.{magnitudeOf}
 use Rattle.solve.specs.Elimination.{larger, pivotOf, pivoted, cellLess, rowLess, rowCleared, cleared, tested, column, eliminated, knownLess, unknownOf, placed, substituted}
-use Rattle.solve.specs.Answer.{refusalOf, answerOf, solvedOf}
+use Rattle.solve.specs.Answer.{answerOf, solvedOf}
 use Rattle.table.specs.Solver.{solved, cases}
 
 pub cases-right : Right solved cases
-unfolding solvedOf refusalOf answerOf eliminated column tested pivoted pivotOf larger magnitudeOf cleared rowCleared rowLess cellLess substituted placed unknownOf knownLess loop turns ofBits ofInt neg lt sub mul div
+unfolding solvedOf answerOf eliminated column tested pivoted pivotOf larger magnitudeOf cleared rowCleared rowLess cellLess substituted placed unknownOf knownLess loop turns ofBits ofInt neg lt sub mul div
 cases-right = (refl, (refl, (refl, (refl, (refl, (refl, (refl, (refl, tt))))))))

@@ -8,7 +8,7 @@ use lib.Ieee.{Float, nan, neg, binary64, ofBits, ofInt}
 use Rattle.table.specs.Cases.{Case, row}
 use Rattle.laws.specs.Scaled.{plusZero}
 use Rattle.solve.specs.Elimination.{Row, Matrix, limit}
-use Rattle.solve.specs.Answer.{unsolvedOf, solvedOf}
+use Rattle.solve.specs.Answer.{refused, solvedOf}
 use Rattle.solve.specs.declared.Solved.{Solved}
 
 -- the matrix, the right side and the order
@@ -51,12 +51,12 @@ cases =
     } ∷
     record {
       input = equations ((whole 1 ∷ whole 1 ∷ []) ∷ (whole 1 ∷ whole 1 ∷ []) ∷ []) (plusZero ∷ plusZero ∷ []);
-      stated = unsolvedOf 0;
+      stated = refused 0;
     } ∷
-    row (padded (filled []) [], filled [], 0) (unsolvedOf 8) ∷
-    row (padded (filled []) [], filled [], 26) (unsolvedOf 8) ∷
+    row (padded (filled []) [], filled [], 0) (refused 8) ∷
+    row (padded (filled []) [], filled [], 26) (refused 8) ∷
     row (single limit limit) (solution (whole 1 ∷ [])) ∷
     row (single (neg limit) limit) (solution (neg (whole 1) ∷ [])) ∷
-    row (single underLimit limit) (unsolvedOf 0) ∷
+    row (single underLimit limit) (refused 0) ∷
     row (single nan limit) (solution (nan ∷ [])) ∷
     []

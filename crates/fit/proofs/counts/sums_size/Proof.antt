@@ -1,7 +1,7 @@
 -- `fit::counts::sums_size` meets its contract: each product is small. Assumes nothing.
 use native.Mathlib.Omega.{arith}
 use borrow.Author.Needs.{needs}
-use Rattle.fit.proofs.Rooms.{starts-few, sides-few, sums-few}
+use Rattle.normal.proofs.Sizes.{starts-few, sides-few, sums-few}
 use Rattle.fit.proofs.counts.sums_size.Statement.{statement}
 use Rattle.fit.proofs.counts.sums_size.Tie as tie
 

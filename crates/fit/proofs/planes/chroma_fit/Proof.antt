@@ -3,7 +3,8 @@ use mathlib.Core.Path.{sym, _∙_}
 use native.Mathlib.Omega.{arith}
 use lib.Seq.{length-take-le}
 use borrow.Author.Needs.{needs}
-use Rattle.fit.proofs.Rooms.{factors-few, sums-few}
+use Rattle.normal.proofs.Sizes.{sums-few}
+use Rattle.fit.proofs.Rooms.{factors-few}
 use Rattle.fit.proofs.ChromaSteps.{narrow, short}
 use Rattle.fit.proofs.planes.chroma_fit.Statement.{statement}
 use Rattle.fit.proofs.planes.chroma_fit.Tie as tie
