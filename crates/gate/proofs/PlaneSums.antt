@@ -20,14 +20,14 @@ use Rattle.frame.specs.View.{viewed}
 use Rattle.frame.specs.declared.view.View.{View}
 use Rattle.frame.proofs.Viewed.{viewed-length}
 use Rattle.noise.specs.Noise.{noise, noiseOf}
-use Rattle.noise.specs.Seen.{seen, Seen, sumOver, squared}
+use Rattle.noise.specs.Seen.{seen, Seen, sumOver, squared, laggedSum}
 use Rattle.noise.specs.Products.{own, onward}
 use Rattle.noise.specs.Claim.{Limited}
 use Rattle.noise.specs.Steps.{dotF, lagF}
-use Rattle.noise.proofs.Accepted.{plane-samples}
+use Rattle.noise.proofs.Products.{plane-samples}
 use Rattle.noise.proofs.Seen.{seen-plane}
 use Rattle.noise.proofs.Products.{frame-held}
-use Rattle.noise.proofs.Steps.{laggedSum, dot-window, dot-sum, lag-sum}
+use Rattle.noise.proofs.Steps.{dot-window, dot-sum, lag-sum}
 use Rattle.profile.specs.Shifted.{shiftedNoise, square}
 use Rattle.profile.specs.Steps.{planeSquares}
 use Rattle.profile.proofs.Squares.{square-pos}

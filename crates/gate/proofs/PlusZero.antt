@@ -11,8 +11,7 @@ use Rattle.laws.specs.Scaled.{plusZero, ofScaled}
 use Rattle.laws.proofs.Scaled.{scaled-zero}
 use Rattle.frame.specs.declared.view.View.{View}
 use Rattle.noise.specs.Noise.{Pair}
-use Rattle.noise.specs.Seen.{seen, Seen}
-use Rattle.noise.proofs.Steps.{laggedSum}
+use Rattle.noise.specs.Seen.{seen, Seen, laggedSum}
 use Rattle.gate.specs.RowCorrelation.{energyF, rowCorrelation}
 use Rattle.gate.proofs.PlaneSums.{energy-is}
 

@@ -18,9 +18,8 @@ use Rattle.frame.specs.Calls.{pairRefusal}
 use Rattle.frame.specs.View.{whole}
 use Rattle.frame.specs.declared.view.View.{View}
 use Rattle.noise.specs.Noise.{Pair, noiseOf}
-use Rattle.noise.specs.Seen.{seen, Seen}
+use Rattle.noise.specs.Seen.{seen, Seen, laggedSum}
 use Rattle.noise.specs.Steps.{lagF}
-use Rattle.noise.proofs.Steps.{laggedSum}
 use Rattle.noise.proofs.Seen.{plane-noise-le, seen-plane}
 use Rattle.noise.proofs.SeenCalls.{pair-seen}
 use Rattle.gate.specs.RowCorrelation.{energyF, rowCorrelation}
