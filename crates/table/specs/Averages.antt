@@ -3,29 +3,30 @@ use mathlib.Core.Bool.{false, true}
 use mathlib.Core.List.{List, [], _∷_}
 use Prim.Native.Nat.{ℕ}
 use lib.IntN.{ℤ, pos, negsuc}
+use lib.ListN.{replicate}
 use lib.Ieee.{Float, fin}
 use Rattle.table.specs.Cases.{Case, row}
 use Rattle.laws.specs.Window.{Place}
+use Rattle.frame.specs.Size.{subX, subY}
+use Rattle.noise.specs.Noise.{Pair, pair}
 use Rattle.noise.specs.Average.{Luma, averageF, quarters}
 
 -- the average at a chroma place, in f64 and in quarters
 abbrev pub averageAt : Luma × Place → Float × ℤ
 averageAt (luma, (r, c)) = (averageF luma r c, quarters luma r c)
 
+-- a plane denoised to its copy, in a format
+abbrev inFormat : ℕ → Pair → Luma
+inFormat format plane = record { plane = plane; sampling = record { across = subX format; down = subY format } }
+
 abbrev pub line : Luma
-line = record { source = 0 ∷ 4 ∷ 8 ∷ []; denoised = 0 ∷ 0 ∷ 0 ∷ []; width = 3; height = 1; format = 1 }
+line = inFormat 1 (pair (0 ∷ 4 ∷ 8 ∷ []) (0 ∷ 0 ∷ 0 ∷ []) 3 1)
 
 abbrev pub column : Luma
-column = record { source = 1 ∷ 2 ∷ 0 ∷ []; denoised = 0 ∷ 0 ∷ 7 ∷ []; width = 1; height = 3; format = 1 }
+column = inFormat 1 (pair (1 ∷ 2 ∷ 0 ∷ []) (0 ∷ 0 ∷ 7 ∷ []) 1 3)
 
 abbrev pub block : ℕ → Luma
-block format = record {
-  source = 0 ∷ 4 ∷ 8 ∷ 1 ∷ 2 ∷ 3 ∷ 5 ∷ 6 ∷ 7 ∷ 9 ∷ 1 ∷ 2 ∷ 4 ∷ 0 ∷ 3 ∷ 5 ∷ [];
-  denoised = 0 ∷ 0 ∷ 0 ∷ 0 ∷ 0 ∷ 0 ∷ 0 ∷ 0 ∷ 0 ∷ 0 ∷ 0 ∷ 0 ∷ 0 ∷ 0 ∷ 0 ∷ 0 ∷ [];
-  width = 4;
-  height = 4;
-  format = format;
-}
+block format = inFormat format (pair (0 ∷ 4 ∷ 8 ∷ 1 ∷ 2 ∷ 3 ∷ 5 ∷ 6 ∷ 7 ∷ 9 ∷ 1 ∷ 2 ∷ 4 ∷ 0 ∷ 3 ∷ 5 ∷ []) (replicate 16 0) 4 4)
 
 abbrev pub cases : List (Case (Luma × Place) (Float × ℤ))
 cases =

@@ -5,10 +5,9 @@ use lib.IntN.{ℤ, pos}
 use lib.ListN.{replicate}
 use Rattle.table.specs.Cases.{Case}
 use Rattle.laws.specs.Table.{tabulate}
-use Rattle.frame.specs.Size.{chromaWidth, chromaHeight}
+use Rattle.frame.specs.Size.{chromaWidth, chromaHeight, subX, subY}
 use Rattle.noise.specs.Noise.{pair}
 use Rattle.noise.specs.Average.{Luma, quarters}
-use Rattle.noise.specs.Quarters.{luma}
 use Rattle.chroma_correlation.specs.Steps.{corr}
 
 -- luma and one chroma component, denoised to 0
@@ -25,7 +24,10 @@ pub record Figures : Type 0 where
   pub result : ℤ
 
 abbrev lumaOf : Noises → Luma
-lumaOf i = luma (i .luma-noise) (replicate (i .width * i .height) 0) (i .width) (i .height) (i .format)
+lumaOf i = record {
+  plane = pair (i .luma-noise) (replicate (i .width * i .height) 0) (i .width) (i .height);
+  sampling = record { across = subX (i .format); down = subY (i .format) };
+}
 
 abbrev pub figures : Noises → Figures
 figures i =
