@@ -44,8 +44,8 @@ uint32_t grain_denoise_plane(const uint16_t *src, size_t src_len, uint16_t *dst,
 
 /* The same of each plane of a frame, at its own size. */
 uint32_t grain_denoise_frame(grain_shape s, const uint16_t *y, size_t y_len, const uint16_t *cb, size_t cb_len,
-                             const uint16_t *cr, size_t cr_len, uint16_t *dy, size_t dy_len,
-                             uint16_t *dcb, size_t dcb_len, uint16_t *dcr, size_t dcr_len);
+                             const uint16_t *cr, size_t cr_len, uint16_t *to_y, size_t to_y_len,
+                             uint16_t *to_cb, size_t to_cb_len, uint16_t *to_cr, size_t to_cr_len);
 
 /* ---- Sigma16 and the noise profile ---- */
 
@@ -84,8 +84,8 @@ typedef struct {
 /* Of each plane and of each bin: its sigma16, count and sum of d^2. A bin's sigma16 is the plane's where its count is
  * below max(n / 100, 64) in luma, max(n / 100, 32) in chroma, n the plane's samples. */
 grain_estimate grain_noise_estimate(grain_shape s, const uint16_t *y, size_t y_len, const uint16_t *cb, size_t cb_len,
-                                    const uint16_t *cr, size_t cr_len, const uint16_t *dy, size_t dy_len,
-                                    const uint16_t *dcb, size_t dcb_len, const uint16_t *dcr, size_t dcr_len);
+                                    const uint16_t *cr, size_t cr_len, const uint16_t *y_den, size_t y_den_len,
+                                    const uint16_t *cb_den, size_t cb_den_len, const uint16_t *cr_den, size_t cr_den_len);
 
 /* ---- Correlations and gates ---- */
 
@@ -106,12 +106,12 @@ typedef struct {
 
 /* Y of two frames and of their denoised copies: sigma16 >= 16, |rho at lag 1| < 0.75, no energy 0, and
  * |cross / root(e0 * e1)| < 0.4 */
-grain_gate grain_film_grain_probe(grain_shape s, const uint16_t *y0, size_t y0_len, const uint16_t *d0, size_t d0_len,
-                                  const uint16_t *y1, size_t y1_len, const uint16_t *d1, size_t d1_len);
+grain_gate grain_film_grain_probe(grain_shape s, const uint16_t *src0, size_t src0_len, const uint16_t *den0, size_t den0_len,
+                                  const uint16_t *src1, size_t src1_len, const uint16_t *den1, size_t den1_len);
 
 /* One chroma component of two frames and of their denoised copies, and its sigma16: the same with sigma16 >= 8. */
-grain_gate grain_chroma_noise_gate(grain_shape s, const uint16_t *c0, size_t c0_len, const uint16_t *d0, size_t d0_len,
-                                   const uint16_t *c1, size_t c1_len, const uint16_t *d1, size_t d1_len,
+grain_gate grain_chroma_noise_gate(grain_shape s, const uint16_t *src0, size_t src0_len, const uint16_t *den0, size_t den0_len,
+                                   const uint16_t *src1, size_t src1_len, const uint16_t *den1, size_t den1_len,
                                    uint64_t sigma16);
 
 typedef struct {
@@ -124,8 +124,8 @@ typedef struct {
  * latter is at most 1e-9 */
 grain_chroma_corr grain_fit_chroma_corr(grain_shape s, const uint16_t *y, size_t y_len,
                                         const uint16_t *cb, size_t cb_len, const uint16_t *cr, size_t cr_len,
-                                        const uint16_t *dy, size_t dy_len, const uint16_t *dcb, size_t dcb_len,
-                                        const uint16_t *dcr, size_t dcr_len);
+                                        const uint16_t *y_den, size_t y_den_len, const uint16_t *cb_den, size_t cb_den_len,
+                                        const uint16_t *cr_den, size_t cr_den_len);
 
 /* ---- Fits ---- */
 
@@ -173,8 +173,8 @@ typedef struct {
 /* quant_ar of the least squares of a sample's noise by its neighbours' noises, and for chroma by luma's average as well;
  * chroma is 0 in monochrome, in too small a plane and without a solution */
 grain_fit grain_fit_ar_lag(grain_shape s, const uint16_t *y, size_t y_len, const uint16_t *cb, size_t cb_len,
-                           const uint16_t *cr, size_t cr_len, const uint16_t *dy, size_t dy_len,
-                           const uint16_t *dcb, size_t dcb_len, const uint16_t *dcr, size_t dcr_len, size_t lag);
+                           const uint16_t *cr, size_t cr_len, const uint16_t *y_den, size_t y_den_len,
+                           const uint16_t *cb_den, size_t cb_den_len, const uint16_t *cr_den, size_t cr_den_len, size_t lag);
 
 /* ---- Seed and random register ---- */
 

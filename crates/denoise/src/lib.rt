@@ -24,20 +24,20 @@ pub fn denoise_frame(
     y: &[u16],
     cb: &[u16],
     cr: &[u16],
-    to_y: &mut [u16],
-    to_cb: &mut [u16],
-    to_cr: &mut [u16],
+    yout: &mut [u16],
+    cbout: &mut [u16],
+    crout: &mut [u16],
 ) -> u32
-    ensures { λ r. ⌜ (r, planes (now («to_y» .exit)) (now («to_cb» .exit)) (now («to_cr» .exit))) ≡ frameOutcome s (planes (now (y .entry)) (now (cb .entry)) (now (cr .entry))) (planes (now («to_y» .entry)) (now («to_cb» .entry)) (now («to_cr» .entry))) ⌝ }
+    ensures { λ r. ⌜ (r, planes (now (yout .exit)) (now (cbout .exit)) (now (crout .exit))) ≡ frameOutcome s (planes (now (y .entry)) (now (cb .entry)) (now (cr .entry))) (planes (now (yout .entry)) (now (cbout .entry)) (now (crout .entry))) ⌝ }
 {
-    let refusal = frame::denoise_frame_refusal(s, y, cb, cr, to_y.len(), to_cb.len(), to_cr.len());
+    let refusal = frame::denoise_frame_refusal(s, y, cb, cr, yout.len(), cbout.len(), crout.len());
     if refusal != 0 {
         return refusal;
     }
     let width = s.chroma_width();
     let height = s.chroma_height();
-    plane::smooth_plane(y, to_y, s.width, s.height);
-    plane::smooth_plane(cb, to_cb, width, height);
-    plane::smooth_plane(cr, to_cr, width, height);
+    plane::smooth_plane(y, yout, s.width, s.height);
+    plane::smooth_plane(cb, cbout, width, height);
+    plane::smooth_plane(cr, crout, width, height);
     0
 }

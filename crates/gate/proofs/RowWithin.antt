@@ -17,6 +17,7 @@ use Rattle.laws.proofs.Whole.{abs-mul-le, square-nonneg}
 use Rattle.frame.specs.Calls.{pairRefusal}
 use Rattle.frame.specs.View.{whole}
 use Rattle.frame.specs.declared.view.View.{View}
+use Rattle.noise.specs.Lines.{noiseLimit}
 use Rattle.noise.specs.Noise.{Pair, noiseOf}
 use Rattle.noise.specs.Seen.{seen, Seen, laggedSum}
 use Rattle.noise.specs.Steps.{lagF}
@@ -57,9 +58,9 @@ module _ {v : View} {s d : List ℕ} (S : Seen v s d) (lag : ℕ) where
 
   small : natAbs squares ≤ 2 ^ 53
   small =
-      le-trans (sum-bound (λ r. sumTo (λ c. x r c *ℤ x r c) (v .width)) (v .width * (4095 * 4095)) (v .height)
-      (λ r l. sum-bound (λ c. x r c *ℤ x r c) (4095 * 4095) (v .width) (λ c m. abs-mul-le (x r c) (x r c) 4095 4095 (plane-noise-le (seen-plane S) r c l m) (plane-noise-le (seen-plane S) r c l m))))
-      (le-trans (mul-le-mul (S .low) (mul-le-mul (S .narrow) (le-refl (4095 * 4095)))) (lit≤ tt))
+      le-trans (sum-bound (λ r. sumTo (λ c. x r c *ℤ x r c) (v .width)) (v .width * (noiseLimit * noiseLimit)) (v .height)
+      (λ r l. sum-bound (λ c. x r c *ℤ x r c) (noiseLimit * noiseLimit) (v .width) (λ c m. abs-mul-le (x r c) (x r c) noiseLimit noiseLimit (plane-noise-le (seen-plane S) r c l m) (plane-noise-le (seen-plane S) r c l m))))
+      (le-trans (mul-le-mul (S .low) (mul-le-mul (S .narrow) (le-refl (noiseLimit * noiseLimit)))) (lit≤ tt))
 
   some : le (energyF p) plusZero ≡ false → 0 < natAbs squares
   unfolding le ofBits

@@ -13,7 +13,7 @@ pub struct DrawRecord {
     pub value: u32,
 }
 
-// The same, and the register after it.
+// A draw, and the register after it.
 #[repr(C)]
 pub struct StepRecord {
     pub refusal: u32,

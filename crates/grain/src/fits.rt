@@ -36,12 +36,12 @@ pub extern "C" fn grain_fit_ar_lag(
     y: &[u16],
     cb: &[u16],
     cr: &[u16],
-    dy: &[u16],
-    dcb: &[u16],
-    dcr: &[u16],
+    yden: &[u16],
+    cbden: &[u16],
+    crden: &[u16],
     lag: usize,
 ) -> Fit
-    ensures { λ r. ⌜ r ≡ fitAnswer s (now (y .entry)) (now (cb .entry)) (now (cr .entry)) (now (dy .entry)) (now (dcb .entry)) (now (dcr .entry)) lag ⌝ }
+    ensures { λ r. ⌜ r ≡ fitAnswer s (now (y .entry)) (now (cb .entry)) (now (cr .entry)) (now (yden .entry)) (now (cbden .entry)) (now (crden .entry)) lag ⌝ }
 {
-    fit::fit_ar_lag(s, y, cb, cr, dy, dcb, dcr, lag)
+    fit::fit_ar_lag(s, y, cb, cr, yden, cbden, crden, lag)
 }

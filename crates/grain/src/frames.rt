@@ -13,13 +13,13 @@ pub extern "C" fn grain_denoise_frame(
     y: &[u16],
     cb: &[u16],
     cr: &[u16],
-    dy: &mut [u16],
-    dcb: &mut [u16],
-    dcr: &mut [u16],
+    yout: &mut [u16],
+    cbout: &mut [u16],
+    crout: &mut [u16],
 ) -> u32
-    ensures { λ r. ⌜ (r, planes (now (dy .exit)) (now (dcb .exit)) (now (dcr .exit))) ≡ frameOutcome s (planes (now (y .entry)) (now (cb .entry)) (now (cr .entry))) (planes (now (dy .entry)) (now (dcb .entry)) (now (dcr .entry))) ⌝ }
+    ensures { λ r. ⌜ (r, planes (now (yout .exit)) (now (cbout .exit)) (now (crout .exit))) ≡ frameOutcome s (planes (now (y .entry)) (now (cb .entry)) (now (cr .entry))) (planes (now (yout .entry)) (now (cbout .entry)) (now (crout .entry))) ⌝ }
 {
-    denoise::denoise_frame(s, y, cb, cr, dy, dcb, dcr)
+    denoise::denoise_frame(s, y, cb, cr, yout, cbout, crout)
 }
 
 #[no_mangle]
@@ -28,13 +28,13 @@ pub extern "C" fn grain_noise_estimate(
     y: &[u16],
     cb: &[u16],
     cr: &[u16],
-    dy: &[u16],
-    dcb: &[u16],
-    dcr: &[u16],
+    yden: &[u16],
+    cbden: &[u16],
+    crden: &[u16],
 ) -> NoiseEstimate
-    ensures { λ r. ⌜ r ≡ estimateAnswer s (now (y .entry)) (now (cb .entry)) (now (cr .entry)) (now (dy .entry)) (now (dcb .entry)) (now (dcr .entry)) ⌝ }
+    ensures { λ r. ⌜ r ≡ estimateAnswer s (now (y .entry)) (now (cb .entry)) (now (cr .entry)) (now (yden .entry)) (now (cbden .entry)) (now (crden .entry)) ⌝ }
 {
-    profile::noise_estimate(s, y, cb, cr, dy, dcb, dcr)
+    profile::noise_estimate(s, y, cb, cr, yden, cbden, crden)
 }
 
 #[no_mangle]
@@ -43,11 +43,11 @@ pub extern "C" fn grain_fit_chroma_corr(
     y: &[u16],
     cb: &[u16],
     cr: &[u16],
-    dy: &[u16],
-    dcb: &[u16],
-    dcr: &[u16],
+    yden: &[u16],
+    cbden: &[u16],
+    crden: &[u16],
 ) -> ChromaCorr
-    ensures { λ r. ⌜ r ≡ corrAnswer s (now (y .entry)) (now (cb .entry)) (now (cr .entry)) (now (dy .entry)) (now (dcb .entry)) (now (dcr .entry)) ⌝ }
+    ensures { λ r. ⌜ r ≡ corrAnswer s (now (y .entry)) (now (cb .entry)) (now (cr .entry)) (now (yden .entry)) (now (cbden .entry)) (now (crden .entry)) ⌝ }
 {
-    chroma_correlation::fit_chroma_corr(s, y, cb, cr, dy, dcb, dcr)
+    chroma_correlation::fit_chroma_corr(s, y, cb, cr, yden, cbden, crden)
 }

@@ -45,26 +45,26 @@ pub extern "C" fn grain_lag_h_rho(
 #[no_mangle]
 pub extern "C" fn grain_film_grain_probe(
     s: Shape,
-    y0: &[u16],
-    d0: &[u16],
-    y1: &[u16],
-    d1: &[u16],
+    src0: &[u16],
+    den0: &[u16],
+    src1: &[u16],
+    den1: &[u16],
 ) -> Gate
-    ensures { λ r. ⌜ r ≡ lumaAnswer s (now (y0 .entry)) (now (d0 .entry)) (now (y1 .entry)) (now (d1 .entry)) ⌝ }
+    ensures { λ r. ⌜ r ≡ lumaAnswer s (now (src0 .entry)) (now (den0 .entry)) (now (src1 .entry)) (now (den1 .entry)) ⌝ }
 {
-    gate::film_grain_probe(s, y0, d0, y1, d1)
+    gate::film_grain_probe(s, src0, den0, src1, den1)
 }
 
 #[no_mangle]
 pub extern "C" fn grain_chroma_noise_gate(
     s: Shape,
-    c0: &[u16],
-    d0: &[u16],
-    c1: &[u16],
-    d1: &[u16],
+    src0: &[u16],
+    den0: &[u16],
+    src1: &[u16],
+    den1: &[u16],
     sigma16: u64,
 ) -> Gate
-    ensures { λ r. ⌜ r ≡ chromaAnswer s (now (c0 .entry)) (now (d0 .entry)) (now (c1 .entry)) (now (d1 .entry)) sigma16 ⌝ }
+    ensures { λ r. ⌜ r ≡ chromaAnswer s (now (src0 .entry)) (now (den0 .entry)) (now (src1 .entry)) (now (den1 .entry)) sigma16 ⌝ }
 {
-    gate::chroma_noise_gate(s, c0, d0, c1, d1, sigma16)
+    gate::chroma_noise_gate(s, src0, den0, src1, den1, sigma16)
 }

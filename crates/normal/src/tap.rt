@@ -106,32 +106,32 @@ fn average_squares(
 // All rows of the window, for both components: the averages of a row serve both. The lines have a place for each column.
 fn tap_rows(
     y: &[u16],
-    y_den: &[u16],
+    yden: &[u16],
     cb: &[u16],
-    cb_den: &[u16],
+    cbden: &[u16],
     cr: &[u16],
-    cr_den: &[u16],
+    crden: &[u16],
     geometry: Geometry,
     lag: usize,
     sums: &mut [i16],
     averages: &mut [i16],
     line: &mut [i16],
     row: &mut [i64],
-    cb_taps: &mut [i64],
-    cr_taps: &mut [i64],
+    cbtaps: &mut [i64],
+    crtaps: &mut [i64],
 ) -> i64
-    requires { ⌜ TapRows geometry (now y) (now «y_den») (now cb) (now «cb_den») (now cr) (now «cr_den») lag (length (now sums)) (length (now averages)) (length (now line)) (length (now row)) (now «cb_taps») (now «cr_taps») ⌝ }
-    ensures { λ s. ⌜ TapsHeld geometry (now (y .entry)) (now («y_den» .entry)) (now (cb .entry)) (now («cb_den» .entry)) (now (cr .entry)) (now («cr_den» .entry)) lag (geometry .chroma .height - lag) s (now («cb_taps» .exit)) (now («cr_taps» .exit)) ⌝ }
+    requires { ⌜ TapRows geometry (now y) (now yden) (now cb) (now cbden) (now cr) (now crden) lag (length (now sums)) (length (now averages)) (length (now line)) (length (now row)) (now cbtaps) (now crtaps) ⌝ }
+    ensures { λ s. ⌜ TapsHeld geometry (now (y .entry)) (now (yden .entry)) (now (cb .entry)) (now (cbden .entry)) (now (cr .entry)) (now (crden .entry)) lag (geometry .chroma .height - lag) s (now (cbtaps .exit)) (now (crtaps .exit)) ⌝ }
 {
     let chroma = geometry.chroma;
     let n = chroma.width - 2 * lag;
     let rows = chroma.height - lag;
     let mut squares = 0;
     for r in 0..rows {
-        let part = average_squares(y, y_den, geometry, r + lag, n, lag, sums, averages);
+        let part = average_squares(y, yden, geometry, r + lag, n, lag, sums, averages);
         squares = squares + part;
-        add_taps(cb, cb_den, chroma, r, lag, averages, line, row, cb_taps);
-        add_taps(cr, cr_den, chroma, r, lag, averages, line, row, cr_taps);
+        add_taps(cb, cbden, chroma, r, lag, averages, line, row, cbtaps);
+        add_taps(cr, crden, chroma, r, lag, averages, line, row, crtaps);
     }
     squares
 }
@@ -139,18 +139,18 @@ fn tap_rows(
 // taps[i] = Σ neighbour i × luma average over the window, in quarters, for each component; the result is Σ average², in sixteenths.
 pub fn tap_sums(
     y: &[u16],
-    y_den: &[u16],
+    yden: &[u16],
     cb: &[u16],
-    cb_den: &[u16],
+    cbden: &[u16],
     cr: &[u16],
-    cr_den: &[u16],
+    crden: &[u16],
     geometry: Geometry,
     lag: usize,
-    cb_taps: &mut [i64],
-    cr_taps: &mut [i64],
+    cbtaps: &mut [i64],
+    crtaps: &mut [i64],
 ) -> i64
-    requires { ⌜ TapRoom geometry (now y) (now «y_den») (now cb) (now «cb_den») (now cr) (now «cr_den») lag (length (now «cb_taps»)) (length (now «cr_taps»)) ⌝ }
-    ensures { λ s. ⌜ TapSums (lumaSeen geometry (now (y .entry)) (now («y_den» .entry))) (seen (geometry .chroma) (now (cb .entry)) (now («cb_den» .entry))) (seen (geometry .chroma) (now (cr .entry)) (now («cr_den» .entry))) lag s (now («cb_taps» .exit)) (now («cr_taps» .exit)) ⌝ }
+    requires { ⌜ TapRoom geometry (now y) (now yden) (now cb) (now cbden) (now cr) (now crden) lag (length (now cbtaps)) (length (now crtaps)) ⌝ }
+    ensures { λ s. ⌜ TapSums (lumaSeen geometry (now (y .entry)) (now (yden .entry))) (seen (geometry .chroma) (now (cb .entry)) (now (cbden .entry))) (seen (geometry .chroma) (now (cr .entry)) (now (crden .entry))) lag s (now (cbtaps .exit)) (now (crtaps .exit)) ⌝ }
 {
     let mut sums = blank_line();
     let mut averages = blank_line();
@@ -160,23 +160,23 @@ pub fn tap_sums(
     let chroma = geometry.chroma;
     let w = luma.width;
     let cw = chroma.width;
-    let count = cb_taps.len();
-    clear(cb_taps);
-    clear(cr_taps);
+    let count = cbtaps.len();
+    clear(cbtaps);
+    clear(crtaps);
     tap_rows(
         y,
-        y_den,
+        yden,
         cb,
-        cb_den,
+        cbden,
         cr,
-        cr_den,
+        crden,
         geometry,
         lag,
         &mut sums[..w],
         &mut averages[..cw],
         &mut line[..cw],
         &mut row[..count],
-        cb_taps,
-        cr_taps,
+        cbtaps,
+        crtaps,
     )
 }

@@ -15,7 +15,7 @@ abbrev lent : tie.Start → Frame
 lent c = planes (c .args .y .now) (c .args .cb .now) (c .args .cr .now)
 
 abbrev held : tie.Start → Frame
-held c = planes (c .args .to-y .now) (c .args .to-cb .now) (c .args .to-cr .now)
+held c = planes (c .args .yout .now) (c .args .cbout .now) (c .args .crout .now)
 
 returns : tie.Need-returns
 returns c =
@@ -24,7 +24,7 @@ returns c =
 
 -- past the questions
 known : (c : tie.Else1) → let A = c .before .before .before .before .before .before .before .before .args in
-    DenoiseFrameCall (A .s) (A .y .now) (A .cb .now) (A .cr .now) (length (A .to-y .now)) (length (A .to-cb .now)) (length (A .to-cr .now))
+    DenoiseFrameCall (A .s) (A .y .now) (A .cb .now) (A .cr .now) (length (A .yout .now)) (length (A .cbout .now)) (length (A .crout .now))
 known c = denoise-frame-call _ _ _ _ _ _ _ (sym (c .before .denoise-frame-refusal .ensures) ∙ c .if1 .left)
 
 smooth-plane-requires : tie.Need-smooth-plane-requires

@@ -70,7 +70,7 @@ averaged-in c = c .before .before .before
 
 squared : (c : tie.After-average-squares Inv-loop μ-loop) → let A = start (averaged-in c) .args in
     Is w64 (toZ w64 (averaged-in c .before .loop .squares) +ℤ toZ w64 (ofZ w64 (c .average-squares .result)))
-    (squaresAfter (quarters (lumaSeen (A .geometry) (A .y .now) (A .y-den .now))) (A .geometry .chroma .width) (A .lag) (averaged-in c .before .loop .r + 1))
+    (squaresAfter (quarters (lumaSeen (A .geometry) (A .y .now) (A .yden .now))) (A .geometry .chroma .width) (A .lag) (averaged-in c .before .loop .r + 1))
 squared c =
     let T = averaged-in c in
     squares-turn (start T .pre) (T .before .loop .r) (T .loop-test .taken) (c .average-squares .result) (T .before .loop .inv .5 .squares-are) (c .average-squares .ensures .squares-are)
@@ -102,7 +102,7 @@ add-taps-requires-2 c κs =
     component-add (start T .pre) (H .r) (T .loop-test .taken) (start T .pre .frame .cr) (H .inv .5 .cr-are) (Q .average-squares .ensures .averages-are) (K .0 ∙ H .inv .2) (K .1 .0 ∙ H .inv .3)
 
 -- ---- the turn's end
-abbrev turn : tie.After-cr-taps Inv-loop μ-loop → tie.In-loop Inv-loop μ-loop
+abbrev turn : tie.After-crtaps Inv-loop μ-loop → tie.In-loop Inv-loop μ-loop
 turn c = averaged-in (blue-after (red-after (c .before .before .before .before) .before))
 
 add-r : tie.Need-add-r Inv-loop μ-loop
@@ -119,7 +119,7 @@ loop-again c =
     let T = averaged-in Q in
     let A = start T .args in
     let H = T .before .loop in
-    let q = quarters (lumaSeen (A .geometry) (A .y .now) (A .y-den .now)) in
+    let q = quarters (lumaSeen (A .geometry) (A .y .now) (A .yden .now)) in
     let v = A .geometry .chroma in
     let wide = start T .pre .window .columns in
     let K = Q .average-squares .kept .1 .1 .1 .1 .1 .1 in
@@ -132,8 +132,8 @@ loop-again c =
       add-one-le (T .loop-test .taken),
       record {
         squares-are = again (squared Q) .eq;
-        cb-are = taps-more (noiseAt (A .cb .now) (A .cb-den .now) v) q (v .width) (A .lag) (H .r) wide (Q .average-squares .ensures .averages-are) (H .inv .5 .cb-are) (B .add-taps .ensures);
-        cr-are = taps-more (noiseAt (A .cr .now) (A .cr-den .now) v) q (v .width) (A .lag) (H .r) wide (Q .average-squares .ensures .averages-are) (H .inv .5 .cr-are) (R .add-taps2 .ensures);
+        cb-are = taps-more (noiseAt (A .cb .now) (A .cbden .now) v) q (v .width) (A .lag) (H .r) wide (Q .average-squares .ensures .averages-are) (H .inv .5 .cb-are) (B .add-taps .ensures);
+        cr-are = taps-more (noiseAt (A .cr .now) (A .crden .now) v) q (v .width) (A .lag) (H .r) wide (Q .average-squares .ensures .averages-are) (H .inv .5 .cr-are) (R .add-taps2 .ensures);
       },
     )
 

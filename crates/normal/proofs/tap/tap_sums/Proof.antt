@@ -11,10 +11,10 @@ use Rattle.normal.proofs.tap.tap_sums.Statement.{statement}
 use Rattle.normal.proofs.tap.tap_sums.Tie as tie
 
 -- what is known at entry, and of the arrays, once the sums are cleared
-abbrev blank : tie.After-cr-taps → tie.After-blank-tables
+abbrev blank : tie.After-crtaps → tie.After-blank-tables
 blank c = c .before .before .before .before .before .before .before .before
 
-abbrev entry : tie.After-cr-taps → tie.Start
+abbrev entry : tie.After-crtaps → tie.Start
 entry c = blank c .before .before .before .before .before .before .before .before .before .before
 
 array-borrow-prefix-sums : tie.Need-array-borrow-prefix-sums
@@ -41,7 +41,7 @@ array-borrow-prefix-row c =
     le-trans (le-of-eq (P .cb-sized)) (le-trans (add-le-add (neighbours-le (P .window .few)) (le-refl 1)) (search needs))
 
 slice-aggregate-tap-rows-4 : tie.Need-slice-aggregate-tap-rows-4
-slice-aggregate-tap-rows-4 c = let C = c .before .before .before .before in sym (length-take-le (length (entry C .args .cb-taps .now)) (blank C .blank-tables .result) (array-borrow-prefix-row (c .before)))
+slice-aggregate-tap-rows-4 c = let C = c .before .before .before .before in sym (length-take-le (length (entry C .args .cbtaps .now)) (blank C .blank-tables .result) (array-borrow-prefix-row (c .before)))
 
 tap-rows-requires : tie.Need-tap-rows-requires
 tap-rows-requires c κs =
