@@ -6,17 +6,13 @@ use frame::Shape;
 
 // The fit of a frame of width 2.
 fn fit_at(lag: usize) -> fit::Fit {
-    let y = [9u16, 3, 5, 1, 7, 2];
-    let d = [4u16; 6];
-    let empty = [0u16; 1];
-    let none = &empty[..0];
     let s = Shape {
         width: 2,
         height: 3,
         depth: 8,
         format: 0,
     };
-    fit::fit_ar_lag(s, &y, none, none, &d, none, none, lag)
+    fit::fit_ar_lag(s, &[9, 3, 5, 1, 7, 2], &[], &[], &[4; 6], &[], &[], lag)
 }
 
 pub fn run() {

@@ -15,29 +15,41 @@ fn luma_gate(first: &[u16], second: &[u16], denoised: &[u16]) -> u64 {
     yes(gate::film_grain_probe(s, first, denoised, second, denoised).yes)
 }
 
-pub fn run() {
-    let four = [100u16; 4];
-    let even = [101u16, 101, 101, 101];
-    let last_turned = [101u16, 101, 101, 99];
-    let second_turned = [101u16, 99, 101, 101];
+fn of_four(first: &[u16; 4]) -> u64 {
+    luma_gate(first, &[101, 99, 101, 101], &[100; 4])
+}
+
+fn of_ten(second: &[u16; 10]) -> u64 {
+    luma_gate(
+        &[101, 101, 99, 99, 101, 101, 99, 99, 101, 101],
+        second,
+        &[100; 10],
+    )
+}
+
+fn four_columns() {
     say(
         b"luma gate of noise 1,1,1,1",
-        luma_gate(&even, &second_turned, &four),
+        of_four(&[101, 101, 101, 101]),
     );
     say(
         b"luma gate of noise 1,1,1,-1",
-        luma_gate(&last_turned, &second_turned, &four),
+        of_four(&[101, 101, 101, 99]),
     );
-    let ten = [100u16; 10];
-    let pairs = [101u16, 101, 99, 99, 101, 101, 99, 99, 101, 101];
-    let three_turned = [99u16, 99, 101, 99, 101, 101, 99, 99, 101, 101];
-    let four_turned = [99u16, 99, 101, 101, 101, 101, 99, 99, 101, 101];
+}
+
+fn ten_columns() {
     say(
         b"luma gate with 3 of 10 signs turned",
-        luma_gate(&pairs, &three_turned, &ten),
+        of_ten(&[99, 99, 101, 99, 101, 101, 99, 99, 101, 101]),
     );
     say(
         b"luma gate with 4 of 10 signs turned",
-        luma_gate(&pairs, &four_turned, &ten),
+        of_ten(&[99, 99, 101, 101, 101, 101, 99, 99, 101, 101]),
     );
+}
+
+pub fn run() {
+    four_columns();
+    ten_columns();
 }

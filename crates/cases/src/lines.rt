@@ -1,5 +1,5 @@
 // A line of the list: whole numbers with spaces between.
-ghost use Prim.Native.Nat.{_<_};
+ghost use Prim.Native.Nat.{_<_, _≤_};
 ghost use lib.ListN.{length};
 
 // A line's numbers, 0 where it ends early, and where the next line begins.
@@ -15,10 +15,27 @@ fn is_digit(b: u8) -> bool {
     b < 58
 }
 
-// 10 x + the digit, in 64 bits.
+// 10 x + the digit, in 64 bits; x where the byte is none.
 fn more(x: u64, b: u8) -> u64 {
-    let ten = std::num::wrapping_add_u64(x << 3, x << 1);
-    std::num::wrapping_add_u64(ten, (b % 48) as u64)
+    if is_digit(b) {
+        let ten = std::num::wrapping_add_u64(x << 3, x << 1);
+        return std::num::wrapping_add_u64(ten, (b % 48) as u64);
+    }
+    x
+}
+
+// The number that the byte after this one belongs to; the last where there are too many.
+fn place_after(k: usize, b: u8) -> usize
+    requires { ⌜ k ≤ 12 ⌝ }
+    ensures { λ r. ⌜ r ≤ 12 ⌝ }
+{
+    if is_digit(b) {
+        return k;
+    }
+    if k < 12 {
+        return k + 1;
+    }
+    k
 }
 
 // The line that begins at a place.
@@ -26,20 +43,21 @@ pub fn line_at(text: &[u8], at: usize) -> Line
     requires { ⌜ at < length (now text) ⌝ }
     ensures { λ r. ⌜ at < r .next ⌝ }
 {
-    let mut numbers = [0u64; 13];
+    let mut numbers = [0; 13];
     let mut k = 0;
-    let mut i = at;
-    while i < text.len() {
+    for i in at..text.len() {
         let b = text[i];
-        i += 1;
         if b == b'\n' {
-            return Line { numbers, next: i };
+            return Line {
+                numbers,
+                next: i + 1,
+            };
         }
-        if is_digit(b) {
-            numbers[k] = more(numbers[k], b);
-        } else if k < 12 {
-            k += 1;
-        }
+        numbers[k] = more(numbers[k], b);
+        k = place_after(k, b);
     }
-    Line { numbers, next: i }
+    Line {
+        numbers,
+        next: text.len(),
+    }
 }

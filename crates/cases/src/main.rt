@@ -1,6 +1,7 @@
 // Runs the scope's cases that are not proved about the definitions, and writes a line for each: its name and the figure that came out.
 // Then asks every call of the recorded list in data/, and writes for each kind of call how many there were and how many answered otherwise.
 mod bins;
+mod calls;
 mod case;
 mod casts;
 mod digests;
@@ -15,6 +16,7 @@ mod number_calls;
 mod plane_calls;
 mod planes;
 mod questions;
+mod reads;
 mod replay;
 mod say;
 mod systems;
@@ -25,5 +27,6 @@ fn main() {
     gates::run();
     fits::run();
     questions::run();
+    reads::run();
     replay::run();
 }

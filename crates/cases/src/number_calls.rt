@@ -1,5 +1,6 @@
 // The calls on numbers.
 use crate::case::Answer;
+use crate::case::Numbers;
 use crate::casts::count;
 use crate::casts::float_of;
 use crate::casts::low16;
@@ -17,10 +18,7 @@ use crate::systems::row;
 use random::Draw;
 
 // Whether there is a solution, its order and its values as a digest.
-pub fn solve_normal(numbers: &[u64; 13]) -> Answer {
-    let a = matrix(numbers[2], low32(numbers[4]));
-    let b = row(0, 25, low32(numbers[4]));
-    let s = solve::solve_normal(a, b, size(numbers[3]));
+fn solved_answer(s: solve::Solved) -> Answer {
     let solution = s.solution;
     let values = solution.values;
     let head = mixed(mixed(0, yes(s.found)), count(solution.order));
@@ -30,49 +28,56 @@ pub fn solve_normal(numbers: &[u64; 13]) -> Answer {
     }
 }
 
-fn offsets_into(digest: u64, offsets: &[i32; 24]) -> u64 {
-    coefficients_into(digest, offsets)
+pub fn solve_normal(n: &Numbers) -> Answer {
+    let seed = low32(n[4]);
+    solved_answer(solve::solve_normal(matrix(n[2], seed), row(0, 25, seed), size(n[3])))
 }
 
 // The count, the rows and the columns as a digest.
-pub fn ar_positions(numbers: &[u64; 13]) -> Answer {
-    let p = positions::ar_positions(size(numbers[2]));
+fn positions_answer(p: positions::Positions) -> Answer {
     let rows = p.rows;
     let columns = p.columns;
-    let head = mixed(0, count(p.count));
     Answer {
         refusal: p.refusal,
-        value: offsets_into(offsets_into(head, &rows), &columns),
+        value: coefficients_into(coefficients_into(mixed(0, count(p.count)), &rows), &columns),
     }
 }
 
-pub fn quant_ar(numbers: &[u64; 13]) -> Answer {
+pub fn ar_positions(n: &Numbers) -> Answer {
+    positions_answer(positions::ar_positions(size(n[2])))
+}
+
+pub fn quant_ar(n: &Numbers) -> Answer {
     Answer {
         refusal: 0,
-        value: signed(float::quant_ar(float_of(numbers[2]))),
+        value: signed(float::quant_ar(float_of(n[2]))),
     }
 }
 
-pub fn grain_seed_for(numbers: &[u64; 13]) -> Answer {
+pub fn grain_seed_for(n: &Numbers) -> Answer {
     Answer {
         refusal: 0,
-        value: wide16(random::grain_seed_for(low32(numbers[2]))),
+        value: wide16(random::grain_seed_for(low32(n[2]))),
     }
 }
 
 // The bits drawn, above the 16 bits of the state afterwards.
-pub fn random_register(numbers: &[u64; 13]) -> Answer {
-    let s = random::draw_from(low16(numbers[2]), low32(numbers[3]));
-    let after = s.register;
-    let draw = s.draw;
+fn draw_answer(draw: Draw, state: u64) -> Answer {
     match draw {
         Draw::Refused(n) => Answer {
             refusal: n,
-            value: wide16(after.state),
+            value: state,
         },
         Draw::Value(v) => Answer {
             refusal: 0,
-            value: (wide(v) << 16) | wide16(after.state),
+            value: (wide(v) << 16) | state,
         },
     }
+}
+
+pub fn random_register(n: &Numbers) -> Answer {
+    let s = random::draw_from(low16(n[2]), low32(n[3]));
+    let after = s.register;
+    let draw = s.draw;
+    draw_answer(draw, wide16(after.state))
 }

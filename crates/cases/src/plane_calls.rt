@@ -1,57 +1,35 @@
-// The calls on a lone plane.
+// What the calls on a lone plane answer.
+use crate::case::ARGUMENT;
 use crate::case::Answer;
-use crate::case::Case;
-use crate::case::case_of;
-use crate::case::lent;
-use crate::case::make_luma;
+use crate::case::DEPTH;
+use crate::case::HEIGHT;
+use crate::case::Numbers;
+use crate::case::WIDTH;
 use crate::casts::bits;
 use crate::casts::low8;
 use crate::casts::size;
 use crate::digests::samples_into;
-use crate::planes::blank;
-use crate::planes::front;
 
-fn denoise_into(c: Case, src: &[u16], dst: &mut [u16]) -> Answer {
-    let refusal = denoise::denoise_plane(src, dst, c.width, c.height);
+// The destination as a digest, after a refusal too.
+pub fn denoise_plane(n: &Numbers, src: &[u16], dst: &mut [u16]) -> Answer {
+    let refusal = denoise::denoise_plane(src, dst, size(n[WIDTH]), size(n[HEIGHT]));
     Answer {
         refusal,
         value: samples_into(0, dst),
     }
 }
 
-// The destination as a digest, after a refusal too.
-pub fn denoise_plane(numbers: &[u64; 13]) -> Answer {
-    let c = case_of(numbers);
-    let mut src = blank();
-    let mut dst = blank();
-    make_luma(&mut src, &mut dst, c, 1);
-    let n = lent(c.fault, c.luma, 4);
-    let source = front(&src, lent(c.fault, c.luma, 1));
-    denoise_into(c, source, &mut dst[0..n])
-}
-
-fn sigma_of(c: Case, src: &[u16], den: &[u16]) -> Answer {
-    let s = profile::plane_sigma16(src, den, c.width, c.height, low8(c.depth));
+pub fn plane_sigma16(n: &Numbers, src: &[u16], den: &[u16]) -> Answer {
+    let s = profile::plane_sigma16(src, den, size(n[WIDTH]), size(n[HEIGHT]), low8(n[DEPTH]));
     Answer {
         refusal: s.refusal,
         value: s.sigma16,
     }
 }
 
-pub fn plane_sigma16(numbers: &[u64; 13]) -> Answer {
-    let c = case_of(numbers);
-    let mut src = blank();
-    let mut den = blank();
-    make_luma(&mut src, &mut den, c, 1);
-    sigma_of(
-        c,
-        front(&src, lent(c.fault, c.luma, 1)),
-        front(&den, lent(c.fault, c.luma, 4)),
-    )
-}
-
-fn rho_of(c: Case, src: &[u16], den: &[u16]) -> Answer {
-    match gate::lag_h_rho(src, den, c.width, c.height, size(c.argument), low8(c.depth)) {
+// The correlation as its bits.
+fn rho_answer(rho: gate::Rho) -> Answer {
+    match rho {
         gate::Rho::Refused(n) => Answer {
             refusal: n,
             value: 0,
@@ -63,15 +41,13 @@ fn rho_of(c: Case, src: &[u16], den: &[u16]) -> Answer {
     }
 }
 
-// The correlation as its bits.
-pub fn lag_h_rho(numbers: &[u64; 13]) -> Answer {
-    let c = case_of(numbers);
-    let mut src = blank();
-    let mut den = blank();
-    make_luma(&mut src, &mut den, c, 1);
-    rho_of(
-        c,
-        front(&src, lent(c.fault, c.luma, 1)),
-        front(&den, lent(c.fault, c.luma, 4)),
-    )
+pub fn lag_h_rho(n: &Numbers, src: &[u16], den: &[u16]) -> Answer {
+    rho_answer(gate::lag_h_rho(
+        src,
+        den,
+        size(n[WIDTH]),
+        size(n[HEIGHT]),
+        size(n[ARGUMENT]),
+        low8(n[DEPTH]),
+    ))
 }

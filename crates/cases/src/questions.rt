@@ -15,9 +15,8 @@ fn sample_number(sample: u16) -> u64 {
 
 // What the denoiser answers to an empty plane of this width.
 fn width_number(width: usize) -> u64 {
-    let y = [0u16; 1];
-    let mut d = [0u16; 1];
-    wide(denoise::denoise_plane(&y[..0], &mut d[..0], width, 0))
+    let mut d = [0; 1];
+    wide(denoise::denoise_plane(&[], &mut d[..0], width, 0))
 }
 
 fn bits_number(bits: u32) -> u64 {
@@ -30,31 +29,51 @@ fn bits_number(bits: u32) -> u64 {
 }
 
 fn order_number(order: usize) -> u64 {
-    let a = [[0.0f64; 25]; 25];
-    let b = [0.0f64; 25];
+    let a = [[0.0; 25]; 25];
+    let b = [0.0; 25];
     wide(solve::solve_normal(a, b, order).refusal)
 }
 
 // Whether a single equation with this pivot has a solution.
 fn pivot_passes(pivot: f64) -> u64 {
-    let mut a = [[0.0f64; 25]; 25];
-    let b = [1.0f64; 25];
+    let mut a = [[0.0; 25]; 25];
+    let b = [1.0; 25];
     a[0][0] = pivot;
     yes(solve::solve_normal(a, b, 1).found)
 }
 
-pub fn run() {
+fn sizes() {
     say(b"width 4,096", width_number(4096));
     say(b"width 4,097", width_number(4097));
+}
+
+fn samples() {
     say(
         b"sample 255 at 8 bits, 1000 where accepted",
         sample_number(255),
     );
     say(b"sample 256 at 8 bits", sample_number(256));
+}
+
+fn registers() {
     say(b"16 bits of the register at 1", bits_number(16));
     say(b"17 bits of the register at 1", bits_number(17));
+}
+
+fn orders() {
     say(b"order 0", order_number(0));
     say(b"order 26", order_number(26));
+}
+
+fn pivots() {
     say(b"pivot 1e-9 passes", pivot_passes(1e-9));
     say(b"pivot 9e-10 passes", pivot_passes(9e-10));
+}
+
+pub fn run() {
+    sizes();
+    samples();
+    registers();
+    orders();
+    pivots();
 }

@@ -1,24 +1,18 @@
 // The recorded list: what the Rust answered, and the numbers of each refused call, against what the calls answer here.
+use crate::calls;
+use crate::calls::Figure;
 use crate::case::Answer;
-use crate::frame_calls;
-use crate::gate_calls;
+use crate::case::Numbers;
+use crate::casts::count;
+use crate::casts::wide;
 use crate::lines::line_at;
 use crate::number_calls;
-use crate::plane_calls;
 use libc::STDOUT_FILENO;
 ghost use Prim.Native.Nat.{_≤_};
 
 // The call that a list is of.
 enum Call {
-    DenoisePlane,
-    DenoiseFrame,
-    PlaneSigma16,
-    NoiseEstimate,
-    LagHRho,
-    FilmGrainProbe,
-    ChromaNoiseGate,
-    FitChromaCorr,
-    FitArLag,
+    OnPlanes(Figure),
     ArPositions,
     SolveNormal,
     QuantAr,
@@ -26,17 +20,9 @@ enum Call {
     RandomRegister,
 }
 
-fn answer(call: Call, n: &[u64; 13]) -> Answer {
+fn answer(call: Call, n: &Numbers) -> Answer {
     match call {
-        Call::DenoisePlane => plane_calls::denoise_plane(n),
-        Call::DenoiseFrame => frame_calls::denoise_frame(n),
-        Call::PlaneSigma16 => plane_calls::plane_sigma16(n),
-        Call::NoiseEstimate => frame_calls::noise_estimate(n),
-        Call::LagHRho => plane_calls::lag_h_rho(n),
-        Call::FilmGrainProbe => gate_calls::film_grain_probe(n),
-        Call::ChromaNoiseGate => gate_calls::chroma_noise_gate(n),
-        Call::FitChromaCorr => frame_calls::fit_chroma_corr(n),
-        Call::FitArLag => frame_calls::fit_ar_lag(n),
+        Call::OnPlanes(figure) => calls::ask(figure, n),
         Call::ArPositions => number_calls::ar_positions(n),
         Call::SolveNormal => number_calls::solve_normal(n),
         Call::QuantAr => number_calls::quant_ar(n),
@@ -45,17 +31,19 @@ fn answer(call: Call, n: &[u64; 13]) -> Answer {
     }
 }
 
-fn say_answer(refusal: u64, value: u64) {
-    io::write_all(STDOUT_FILENO, b" refusal ");
-    io::print_decimal(STDOUT_FILENO, refusal);
-    io::write_all(STDOUT_FILENO, b" answer ");
-    io::print_decimal(STDOUT_FILENO, value);
+fn say_word(word: &[u8], number: u64) {
+    io::write_all(STDOUT_FILENO, word);
+    io::print_decimal(STDOUT_FILENO, number);
 }
 
-fn say_difference(name: &[u8], line: usize, refusal: u64, value: u64, n: &[u64; 13]) {
+fn say_answer(refusal: u64, value: u64) {
+    say_word(b" refusal ", refusal);
+    say_word(b" answer ", value);
+}
+
+fn say_difference(name: &[u8], line: usize, refusal: u64, value: u64, n: &Numbers) {
     io::write_all(STDOUT_FILENO, name);
-    io::write_all(STDOUT_FILENO, b" line ");
-    io::print_decimal(STDOUT_FILENO, line as u64);
+    say_word(b" line ", count(line));
     io::write_all(STDOUT_FILENO, b":");
     say_answer(refusal, value);
     io::write_all(STDOUT_FILENO, b", recorded");
@@ -64,11 +52,11 @@ fn say_difference(name: &[u8], line: usize, refusal: u64, value: u64, n: &[u64; 
 }
 
 // 1 where a line's answer is another than the recorded one, which is then written.
-fn difference(name: &[u8], call: Call, line: usize, n: &[u64; 13]) -> usize
+fn difference(name: &[u8], call: Call, line: usize, n: &Numbers) -> usize
     ensures { λ r. ⌜ r ≤ 1 ⌝ }
 {
     let a = answer(call, n);
-    let refusal = a.refusal as u64;
+    let refusal = wide(a.refusal);
     if refusal == n[0] {
         if a.value == n[1] {
             return 0;
@@ -80,10 +68,8 @@ fn difference(name: &[u8], call: Call, line: usize, n: &[u64; 13]) -> usize
 
 fn say_counts(name: &[u8], calls: usize, differences: usize) {
     io::write_all(STDOUT_FILENO, name);
-    io::write_all(STDOUT_FILENO, b": ");
-    io::print_decimal(STDOUT_FILENO, calls as u64);
-    io::write_all(STDOUT_FILENO, b" calls, ");
-    io::print_decimal(STDOUT_FILENO, differences as u64);
+    say_word(b": ", count(calls));
+    say_word(b" calls, ", count(differences));
     io::write_all(STDOUT_FILENO, b" differences\n");
 }
 
@@ -114,24 +100,34 @@ fn replay(name: &[u8], call: Call) {
     compare(name, call, &list[..n]);
 }
 
+fn ask(name: &[u8], figure: Figure) {
+    replay(name, Call::OnPlanes(figure));
+}
+
 fn on_planes() {
-    replay(b"denoise_plane", Call::DenoisePlane);
-    replay(b"plane_sigma16", Call::PlaneSigma16);
-    replay(b"lag_h_rho", Call::LagHRho);
-    replay(b"film_grain_probe", Call::FilmGrainProbe);
-    replay(b"chroma_noise_gate", Call::ChromaNoiseGate);
+    ask(b"denoise_plane", Figure::DenoisePlane);
+    ask(b"plane_sigma16", Figure::PlaneSigma16);
+    ask(b"lag_h_rho", Figure::LagHRho);
+}
+
+fn on_two_frames() {
+    ask(b"film_grain_probe", Figure::FilmGrainProbe);
+    ask(b"chroma_noise_gate", Figure::ChromaNoiseGate);
 }
 
 fn on_frames() {
-    replay(b"denoise_frame", Call::DenoiseFrame);
-    replay(b"noise_estimate", Call::NoiseEstimate);
-    replay(b"fit_chroma_corr", Call::FitChromaCorr);
-    replay(b"fit_ar_lag", Call::FitArLag);
+    ask(b"denoise_frame", Figure::DenoiseFrame);
+    ask(b"noise_estimate", Figure::NoiseEstimate);
+    ask(b"fit_chroma_corr", Figure::FitChromaCorr);
+    ask(b"fit_ar_lag", Figure::FitArLag);
+}
+
+fn on_systems() {
+    replay(b"ar_positions", Call::ArPositions);
+    replay(b"solve_normal", Call::SolveNormal);
 }
 
 fn on_numbers() {
-    replay(b"ar_positions", Call::ArPositions);
-    replay(b"solve_normal", Call::SolveNormal);
     replay(b"quant_ar", Call::QuantAr);
     replay(b"grain_seed_for", Call::GrainSeedFor);
     replay(b"random_register", Call::RandomRegister);
@@ -139,6 +135,8 @@ fn on_numbers() {
 
 pub fn run() {
     on_planes();
+    on_two_frames();
     on_frames();
+    on_systems();
     on_numbers();
 }

@@ -1,4 +1,4 @@
--- `cases::bins::place_of_one`: it ends. Assumes nothing.
+-- `cases::bins::place_of_one`: it is safe and ends. Assumes nothing.
 use Prim.Native.Nat.{_≤_, _-_}
 use lib.ListN.{length}
 use borrow.Author.Needs.{needs}
@@ -6,34 +6,10 @@ use Rattle.cases.proofs.bins.place_of_one.Statement.{statement}
 use Rattle.cases.proofs.bins.place_of_one.Tie as tie
 
 abbrev Inv-loop : tie.InvT-loop
-Inv-loop counts i₀ i = i ≤ length counts
+Inv-loop counts i₀ i-end i = (i ≤ i-end) × (i-end ≤ length counts)
 
 abbrev μ-loop : tie.MeasureT-loop
-μ-loop counts i₀ i = length counts - i
-
-loop-holds : tie.Need-loop-holds Inv-loop μ-loop
-loop-holds c = search needs
-
-mul-if1 : tie.Need-mul-if1 Inv-loop μ-loop
-mul-if1 c = search needs
-
-shared-slice-read-if1 : tie.Need-shared-slice-read-if1 Inv-loop μ-loop
-shared-slice-read-if1 c = search needs
-
-returns : tie.Need-returns Inv-loop μ-loop
-returns c = search needs
-
-add-i : tie.Need-add-i Inv-loop μ-loop
-add-i c = search needs
-
-loop-less : tie.Need-loop-less Inv-loop μ-loop
-loop-less c = search needs
-
-loop-again : tie.Need-loop-again Inv-loop μ-loop
-loop-again c = search needs
-
-returns-2 : tie.Need-returns-2 Inv-loop μ-loop
-returns-2 c = search needs
+μ-loop counts i₀ i-end i = i-end - i
 
 pub place-of-one-spec : {M : Type 1} → statement M
 place-of-one-spec =
@@ -41,11 +17,13 @@ place-of-one-spec =
     (tie.spec
     Inv-loop
     μ-loop
-    loop-holds
-    mul-if1
-    shared-slice-read-if1
-    returns
-    add-i
-    loop-less
-    loop-again
-    returns-2)
+    (λ c. search needs)
+    (λ c. search needs)
+    (λ c. search needs)
+    (λ c κs. search needs)
+    (λ c. search needs)
+    (λ c. search needs)
+    (λ c. search needs)
+    (λ c. search needs)
+    (λ c κs. search needs)
+    (λ c. search needs))
