@@ -11,27 +11,59 @@ use crate::digests::coefficients_into;
 use crate::digests::numbers_into;
 use crate::digests::samples_into;
 use crate::draws::mixed;
-
-// Three planes as a digest.
-fn planes_digest(y: &[u16], cb: &[u16], cr: &[u16]) -> u64 {
-    samples_into(samples_into(samples_into(0, y), cb), cr)
-}
+use crate::planes::lent;
+use crate::planes::part;
+use crate::planes::plane;
 
 // The destinations as a digest, after a refusal too.
-pub fn denoise_frame(
+fn denoise_into(
     n: &Numbers,
-    y: &[u16],
-    cb: &[u16],
-    cr: &[u16],
+    all: &[u16],
     y_den: &mut [u16],
     cb_den: &mut [u16],
     cr_den: &mut [u16],
 ) -> Answer {
-    let refusal = denoise::denoise_frame(shape_of(n), y, cb, cr, y_den, cb_den, cr_den);
+    let refusal = denoise::denoise_frame(
+        shape_of(n),
+        part(all, n, 1, 1),
+        part(all, n, 1, 2),
+        part(all, n, 1, 3),
+        y_den,
+        cb_den,
+        cr_den,
+    );
     Answer {
         refusal,
-        value: planes_digest(y_den, cb_den, cr_den),
+        value: samples_into(samples_into(samples_into(0, y_den), cb_den), cr_den),
     }
+}
+
+pub fn denoise_frame(n: &Numbers, all: &[u16]) -> Answer {
+    let mut y_den = plane(n, 1, 4);
+    let mut cb_den = plane(n, 1, 5);
+    let mut cr_den = plane(n, 1, 6);
+    let a = lent(n, 1, 4);
+    let b = lent(n, 1, 5);
+    let c = lent(n, 1, 6);
+    denoise_into(
+        n,
+        all,
+        &mut y_den[0..a],
+        &mut cb_den[0..b],
+        &mut cr_den[0..c],
+    )
+}
+
+pub fn profile_of(n: &Numbers, all: &[u16]) -> profile::NoiseEstimate {
+    profile::noise_estimate(
+        shape_of(n),
+        part(all, n, 1, 1),
+        part(all, n, 1, 2),
+        part(all, n, 1, 3),
+        part(all, n, 1, 4),
+        part(all, n, 1, 5),
+        part(all, n, 1, 6),
+    )
 }
 
 // Each sigma16 in a digest: of the plane, then of its bins.
@@ -45,7 +77,8 @@ fn chroma_into(digest: u64, chroma: profile::ChromaProfile) -> u64 {
     numbers_into(mixed(digest, chroma.sigma16), &bins)
 }
 
-fn profile_answer(e: profile::NoiseEstimate) -> Answer {
+pub fn noise_estimate(n: &Numbers, all: &[u16]) -> Answer {
+    let e = profile_of(n, all);
     let luma = e.luma;
     let cb = e.cb;
     let cr = e.cr;
@@ -53,18 +86,6 @@ fn profile_answer(e: profile::NoiseEstimate) -> Answer {
         refusal: e.refusal,
         value: chroma_into(chroma_into(luma_into(0, luma), cb), cr),
     }
-}
-
-pub fn noise_estimate(
-    n: &Numbers,
-    y: &[u16],
-    cb: &[u16],
-    cr: &[u16],
-    y_den: &[u16],
-    cb_den: &[u16],
-    cr_den: &[u16],
-) -> Answer {
-    profile_answer(profile::noise_estimate(shape_of(n), y, cb, cr, y_den, cb_den, cr_den))
 }
 
 // Both coefficients in a digest.
@@ -75,20 +96,34 @@ fn correlation_answer(r: correlation::ChromaCorr) -> Answer {
     }
 }
 
-pub fn fit_chroma_corr(
-    n: &Numbers,
-    y: &[u16],
-    cb: &[u16],
-    cr: &[u16],
-    y_den: &[u16],
-    cb_den: &[u16],
-    cr_den: &[u16],
-) -> Answer {
-    correlation_answer(correlation::fit_chroma_corr(shape_of(n), y, cb, cr, y_den, cb_den, cr_den))
+pub fn fit_chroma_corr(n: &Numbers, all: &[u16]) -> Answer {
+    correlation_answer(correlation::fit_chroma_corr(
+        shape_of(n),
+        part(all, n, 1, 1),
+        part(all, n, 1, 2),
+        part(all, n, 1, 3),
+        part(all, n, 1, 4),
+        part(all, n, 1, 5),
+        part(all, n, 1, 6),
+    ))
+}
+
+pub fn fit_of(n: &Numbers, all: &[u16]) -> fit::Fit {
+    fit::fit_ar_lag(
+        shape_of(n),
+        part(all, n, 1, 1),
+        part(all, n, 1, 2),
+        part(all, n, 1, 3),
+        part(all, n, 1, 4),
+        part(all, n, 1, 5),
+        part(all, n, 1, 6),
+        size(n[ARGUMENT]),
+    )
 }
 
 // Whether there is a fit, the count and the coefficients as a digest.
-fn fit_answer(f: fit::Fit) -> Answer {
+pub fn fit_ar_lag(n: &Numbers, all: &[u16]) -> Answer {
+    let f = fit_of(n, all);
     let luma = f.luma;
     let cb = f.cb;
     let cr = f.cr;
@@ -97,25 +132,4 @@ fn fit_answer(f: fit::Fit) -> Answer {
         refusal: f.refusal,
         value: coefficients_into(coefficients_into(coefficients_into(head, &luma), &cb), &cr),
     }
-}
-
-pub fn fit_ar_lag(
-    n: &Numbers,
-    y: &[u16],
-    cb: &[u16],
-    cr: &[u16],
-    y_den: &[u16],
-    cb_den: &[u16],
-    cr_den: &[u16],
-) -> Answer {
-    fit_answer(fit::fit_ar_lag(
-        shape_of(n),
-        y,
-        cb,
-        cr,
-        y_den,
-        cb_den,
-        cr_den,
-        size(n[ARGUMENT]),
-    ))
 }

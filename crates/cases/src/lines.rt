@@ -1,4 +1,4 @@
-// A line of the list: whole numbers with spaces between.
+// A line of a list: whole numbers with spaces between; a line of the report has a name and a colon before them.
 ghost use Prim.Native.Nat.{_<_, _≤_};
 ghost use lib.ListN.{length};
 
@@ -60,4 +60,17 @@ pub fn line_at(text: &[u8], at: usize) -> Line
         numbers,
         next: text.len(),
     }
+}
+
+// The first colon from a place on; the place where there is none.
+pub fn colon_at(text: &[u8], at: usize) -> usize
+    requires { ⌜ at < length (now text) ⌝ }
+    ensures { λ r. ⌜ (at ≤ r) × (r < length (now (text .entry))) ⌝ }
+{
+    for i in at..text.len() {
+        if text[i] == b':' {
+            return i;
+        }
+    }
+    at
 }

@@ -17,8 +17,14 @@ use crate::systems::matrix;
 use crate::systems::row;
 use random::Draw;
 
+pub fn solved(n: &Numbers) -> solve::Solved {
+    let seed = low32(n[4]);
+    solve::solve_normal(matrix(n[2], seed), row(0, 25, seed), size(n[3]))
+}
+
 // Whether there is a solution, its order and its values as a digest.
-fn solved_answer(s: solve::Solved) -> Answer {
+pub fn solve_normal(n: &Numbers) -> Answer {
+    let s = solved(n);
     let solution = s.solution;
     let values = solution.values;
     let head = mixed(mixed(0, yes(s.found)), count(solution.order));
@@ -26,11 +32,6 @@ fn solved_answer(s: solve::Solved) -> Answer {
         refusal: s.refusal,
         value: floats_into(head, &values),
     }
-}
-
-pub fn solve_normal(n: &Numbers) -> Answer {
-    let seed = low32(n[4]);
-    solved_answer(solve::solve_normal(matrix(n[2], seed), row(0, 25, seed), size(n[3])))
 }
 
 // The count, the rows and the columns as a digest.

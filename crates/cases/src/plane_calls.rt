@@ -9,9 +9,11 @@ use crate::casts::bits;
 use crate::casts::low8;
 use crate::casts::size;
 use crate::digests::samples_into;
+use crate::planes::lent;
+use crate::planes::part;
+use crate::planes::plane;
 
-// The destination as a digest, after a refusal too.
-pub fn denoise_plane(n: &Numbers, src: &[u16], dst: &mut [u16]) -> Answer {
+fn denoise_into(n: &Numbers, src: &[u16], dst: &mut [u16]) -> Answer {
     let refusal = denoise::denoise_plane(src, dst, size(n[WIDTH]), size(n[HEIGHT]));
     Answer {
         refusal,
@@ -19,8 +21,21 @@ pub fn denoise_plane(n: &Numbers, src: &[u16], dst: &mut [u16]) -> Answer {
     }
 }
 
-pub fn plane_sigma16(n: &Numbers, src: &[u16], den: &[u16]) -> Answer {
-    let s = profile::plane_sigma16(src, den, size(n[WIDTH]), size(n[HEIGHT]), low8(n[DEPTH]));
+// The destination as a digest, after a refusal too.
+pub fn denoise_plane(n: &Numbers, all: &[u16]) -> Answer {
+    let mut dst = plane(n, 1, 4);
+    let count = lent(n, 1, 4);
+    denoise_into(n, part(all, n, 1, 1), &mut dst[0..count])
+}
+
+pub fn plane_sigma16(n: &Numbers, all: &[u16]) -> Answer {
+    let s = profile::plane_sigma16(
+        part(all, n, 1, 1),
+        part(all, n, 1, 4),
+        size(n[WIDTH]),
+        size(n[HEIGHT]),
+        low8(n[DEPTH]),
+    );
     Answer {
         refusal: s.refusal,
         value: s.sigma16,
@@ -41,10 +56,10 @@ fn rho_answer(rho: gate::Rho) -> Answer {
     }
 }
 
-pub fn lag_h_rho(n: &Numbers, src: &[u16], den: &[u16]) -> Answer {
+pub fn lag_h_rho(n: &Numbers, all: &[u16]) -> Answer {
     rho_answer(gate::lag_h_rho(
-        src,
-        den,
+        part(all, n, 1, 1),
+        part(all, n, 1, 4),
         size(n[WIDTH]),
         size(n[HEIGHT]),
         size(n[ARGUMENT]),

@@ -1,5 +1,5 @@
 // The planes of a recorded call, made from its numbers; the recorder makes the same ones. Planes 1 to 3 are sources, 4 to 6 their
-// denoised copies.
+// denoised copies. All six stand in one array, each with room of its own.
 use crate::case::CHROMA;
 use crate::case::DEPTH;
 use crate::case::FAULT;
@@ -18,9 +18,13 @@ use crate::casts::wide;
 use crate::draws::next;
 use crate::draws::start;
 ghost use Prim.Native.Nat.{_≤_};
+ghost use mathlib.Core.Path.{_≡_};
+ghost use lib.ListN.{length};
 
-// Room for the largest recorded plane, and a sample more.
+// Room for the largest recorded plane, and a sample more; and for all six.
 pub const ROOM: usize = 8256;
+
+pub const ALL: usize = 49536;
 
 // A pair is a source and its copy: 1 to 3, as the source.
 fn pair_of(plane: u64) -> u32 {
@@ -28,6 +32,20 @@ fn pair_of(plane: u64) -> u32 {
         1 | 4 => 1,
         2 | 5 => 2,
         _ => 3,
+    }
+}
+
+// Where a plane begins.
+fn start_of(plane: u64) -> usize
+    ensures { λ r. ⌜ r ≤ 41280 ⌝ }
+{
+    match plane {
+        1 => 0,
+        2 => 8256,
+        3 => 16512,
+        4 => 24768,
+        5 => 33024,
+        _ => 41280,
     }
 }
 
@@ -50,18 +68,17 @@ fn above_top(depth: u64) -> u16 {
     }
 }
 
-// Up by a size, down by a size, held to 0 and top.
-fn up(level: u16, size: u16, top: u16) -> u16 {
-    if top < level {
+// A level, up by a size or down by it, held to 0 and top.
+fn moved(level: u16, rises: bool, size: u16, top: u16) -> u16 {
+    if rises {
+        if top <= level {
+            return level;
+        }
+        if size <= top - level {
+            return level + size;
+        }
         return top;
     }
-    if size <= top - level {
-        return level + size;
-    }
-    top
-}
-
-fn down(level: u16, size: u16) -> u16 {
     if size <= level {
         return level - size;
     }
@@ -70,41 +87,50 @@ fn down(level: u16, size: u16) -> u16 {
 
 // A kind is the noise: 0 small, 1 any, 2 none, 3 the extremes, 4 ones, 5 ones of either sign, 6 to 8 stripes, 9 rare ones, 10 one
 // extreme, 11 stripes but for rare places, 12 equal rows, 13 a ramp. And 16 times the level: 0 any, 1 the middle, 2 low, 3 low with
-// less noise in the first pair.
+// less noise in the first pair. Of worked cases alone: noise 14, ones whose signs are the bits of the share, in the second pair of the
+// seed, and 15, ones in the first columns, as many as the share; level 4, the share, and 5, 0 in those columns
+// and 128 in the others, of a single row.
+
+// Whether the sign of a column is positive.
+fn sign_of(n: &Numbers, pair: u32, column: u64) -> bool {
+    if pair == 1 {
+        return (n[SHARE] >> (column % 64)) % 2 == 1;
+    }
+    (n[SEED] >> (column % 64)) % 2 == 1
+}
 
 // Whether a noise is positive.
-fn is_up(noise: u64, column: u64, draw: u32) -> bool {
-    match noise {
-        4 | 10 | 13 => true,
+fn is_up(n: &Numbers, pair: u32, column: u64, draw: u32) -> bool {
+    match n[KIND] % 16 {
+        4 | 10 | 13 | 15 => true,
         6 | 11 => column % 2 == 0,
         7 => column / 8 % 2 == 0,
         8 => column / 16 % 2 == 0,
         12 => 0x5a3c_96e1 / (1 + column % 31) % 2 == 0,
+        14 => sign_of(n, pair, column),
         _ => draw < 0x8000_0000,
     }
 }
 
-// The size of a noise that is drawn as one of 64.
-fn rare_size(noise: u64, draw: u64) -> u16 {
-    let rare = draw % 64 == 0;
-    match noise {
-        9 => if rare { 1 } else { 0 },
-        11 => if rare { 1 } else { 2 },
-        _ => 0,
-    }
+// One of two sizes.
+fn either(first: bool, a: u16, b: u16) -> u16 {
+    if first { a } else { b }
 }
 
 // The size of a noise.
-fn size_of(noise: u64, top: u16, column: u64, draw: u64) -> u16 {
-    match noise {
+fn size_of(n: &Numbers, top: u16, column: u64, draw: u64) -> u16 {
+    match n[KIND] % 16 {
         0 => low16(draw) & (top >> 5),
         1 => low16(draw) & top,
         3 | 10 => top,
-        4 | 5 => 1,
+        4 | 5 | 14 => 1,
         6 | 7 | 8 => 2,
+        9 => either(draw % 64 == 0, 1, 0),
+        11 => either(draw % 64 == 0, 1, 2),
         12 => 5,
         13 => low16(column % 8),
-        _ => rare_size(noise, draw),
+        15 => either(column < n[SHARE], 1, 0),
+        _ => 0,
     }
 }
 
@@ -119,24 +145,18 @@ fn lessened(kind: u64, pair: u32, size: u16) -> u16 {
 }
 
 // The denoised sample of a level.
-fn drawn_level(level: u64, top: u16, own: u32) -> u16 {
+fn drawn_level(n: &Numbers, top: u16, column: u64, own: u32) -> u16 {
     let drawn = low16(wide(own / 65536));
-    match level {
+    match n[KIND] / 16 {
         0 => drawn & top,
         1 => top / 2,
+        4 => low16(n[SHARE]),
+        5 => either(column < n[SHARE], 0, 128),
         _ => drawn & (top >> 4),
     }
 }
 
-// The denoised sample.
-fn level_of(kind: u64, top: u16, rises: bool, own: u32) -> u16 {
-    match kind % 16 {
-        3 | 10 => if rises { 0 } else { top },
-        _ => drawn_level(kind / 16, top, own),
-    }
-}
-
-// Of 16 noises, so many are those of the first pair.
+// Of 16 noises, as many as the share are those of the first pair.
 fn drawn(share: u64, pair: u32, common: u32, own: u32) -> u32 {
     if pair == 1 {
         return common;
@@ -147,30 +167,25 @@ fn drawn(share: u64, pair: u32, common: u32, own: u32) -> u32 {
     own
 }
 
-// The source sample over a denoised sample.
-fn source_sample(n: &Numbers, pair: u32, column: u64, draw: u32, rises: bool, level: u16) -> u16 {
-    let kind = n[KIND];
-    let top = top_of(n[DEPTH]);
-    let size = lessened(
-        kind,
-        pair,
-        size_of(kind % 16, top, column, wide(draw / 256)),
-    );
-    if rises {
-        return up(level, size, top);
+// The denoised sample.
+fn level_of(n: &Numbers, top: u16, column: u64, rises: bool, own: u32) -> u16 {
+    match n[KIND] % 16 {
+        3 | 10 => either(rises, 0, top),
+        _ => drawn_level(n, top, column, own),
     }
-    down(level, size)
 }
 
 fn sample(n: &Numbers, plane: u64, column: u64, common: u32, own: u32) -> u16 {
     let pair = pair_of(plane);
+    let top = top_of(n[DEPTH]);
     let draw = drawn(n[SHARE], pair, common, own);
-    let rises = is_up(n[KIND] % 16, column, draw);
-    let level = level_of(n[KIND], top_of(n[DEPTH]), rises, own);
+    let rises = is_up(n, pair, column, draw);
+    let level = level_of(n, top, column, rises, own);
     if 3 < plane {
         return level;
     }
-    source_sample(n, pair, column, draw, rises, level)
+    let size = size_of(n, top, column, wide(draw / 256));
+    moved(level, rises, lessened(n[KIND], pair, size), top)
 }
 
 fn column_of(i: usize, columns: usize) -> u64 {
@@ -185,40 +200,38 @@ fn first_draw(n: &Numbers, pair: u32) -> u32 {
     start(low32(n[SEED]), pair)
 }
 
-// The first samples of a plane, one more than `samples`.
-fn filled(n: &Numbers, plane: u64, samples: usize, columns: usize) -> [u16; ROOM] {
-    let mut values = [0; ROOM];
-    if ROOM <= samples {
-        return values;
+// The first samples of a plane that begins at a place, one more than `samples`.
+fn fill(values: &mut [u16], at: usize, n: &Numbers, plane: u64, samples: usize, columns: usize) {
+    if values.len() <= at {
+        return;
+    }
+    if values.len() - at <= samples {
+        return;
     }
     let mut common = first_draw(n, 0);
     let mut own = first_draw(n, pair_of(plane));
     for i in 0..samples + 1 {
         common = next(common);
         own = next(own);
-        values[i] = sample(n, plane, column_of(i, columns), common, own);
+        let j = at + i;
+        values[j] = sample(n, plane, column_of(i, columns), common, own);
     }
-    values
 }
 
-// A plane with a sample that is too high, where the fault asks for one.
-fn raised(n: &Numbers, plane: u64, at: usize, values: [u16; ROOM]) -> [u16; ROOM] {
-    let mut raised = values;
+// A sample that is too high, where the fault asks for one.
+fn raise(values: &mut [u16], at: usize, n: &Numbers, plane: u64, i: usize) {
     if n[FAULT] == 24 + plane % 8 {
-        if at < ROOM {
-            raised[at] = above_top(n[DEPTH]);
+        if at < values.len() {
+            if i < values.len() - at {
+                values[at + i] = above_top(n[DEPTH]);
+            }
         }
     }
-    raised
 }
 
-// The first `lumas` pairs are of luma's size, the others of chroma's.
-fn is_luma(plane: u64, lumas: u32) -> bool {
-    pair_of(plane) <= lumas
-}
-
+// The samples that the shape asks for: the first `lumas` pairs are of luma's size, the others of chroma's.
 fn samples_of(n: &Numbers, lumas: u32, plane: u64) -> usize {
-    if is_luma(plane, lumas) {
+    if pair_of(plane) <= lumas {
         return size(n[LUMA]);
     }
     size(n[CHROMA])
@@ -226,7 +239,10 @@ fn samples_of(n: &Numbers, lumas: u32, plane: u64) -> usize {
 
 fn columns_of(n: &Numbers, lumas: u32, plane: u64) -> usize {
     let width = size(n[WIDTH]);
-    if is_luma(plane, lumas) {
+    if n[KIND] / 16 == 5 {
+        return ROOM;
+    }
+    if pair_of(plane) <= lumas {
         return width;
     }
     match n[FORMAT] {
@@ -235,11 +251,28 @@ fn columns_of(n: &Numbers, lumas: u32, plane: u64) -> usize {
     }
 }
 
-// A plane, with a sample more than it lends.
-pub fn plane(n: &Numbers, lumas: u32, plane: u64) -> [u16; ROOM] {
+fn make(values: &mut [u16], at: usize, n: &Numbers, lumas: u32, plane: u64) {
     let samples = samples_of(n, lumas, plane);
-    let columns = columns_of(n, lumas, plane);
-    raised(n, plane, samples / 2, filled(n, plane, samples, columns))
+    fill(values, at, n, plane, samples, columns_of(n, lumas, plane));
+    raise(values, at, n, plane, samples / 2);
+}
+
+// A plane by itself.
+pub fn plane(n: &Numbers, lumas: u32, plane: u64) -> [u16; ROOM]
+    ensures { λ r. ⌜ 8256 ≡ length r ⌝ }
+{
+    let mut values = [0; ROOM];
+    make(&mut values, 0, n, lumas, plane);
+    values
+}
+
+// All six planes.
+pub fn planes(n: &Numbers, lumas: u32) -> [u16; ALL] {
+    let mut all = [0; ALL];
+    for k in 0..6 {
+        make(&mut all, start_of(k + 1), n, lumas, k + 1);
+    }
+    all
 }
 
 // How many samples of a plane are lent, of those that the shape asks for.
@@ -267,10 +300,12 @@ pub fn lent(n: &Numbers, lumas: u32, plane: u64) -> usize
     lent_of(n[FAULT], plane, samples_of(n, lumas, plane))
 }
 
-// The first `count` samples.
-pub fn front(plane: &[u16], count: usize) -> &[u16] {
-    if plane.len() < count {
-        return plane;
+// The samples of a plane that are lent, of all.
+pub fn part<'a>(all: &'a [u16], n: &Numbers, lumas: u32, plane: u64) -> &'a [u16] {
+    let at = start_of(plane);
+    let end = at + lent(n, lumas, plane);
+    if end <= all.len() {
+        return &all[at..end];
     }
-    &plane[0..count]
+    all
 }

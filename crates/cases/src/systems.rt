@@ -19,12 +19,13 @@ fn nearly(r: u64, c: u64, x: f64) -> f64 {
     (float_of(r) + 1.0) * (float_of(c) + 1.0) + x / 8589934592.0
 }
 
-// A large diagonal; pivots about 1e-9; pivots of 1e-9.
+// A large diagonal; pivots about 1e-9; pivots of 1e-9; pivots of 9e-10.
 fn diagonal(kind: u64, x: f64) -> f64 {
     match kind {
         1 => 4096.0 + x,
         8 => x * 1e-10,
-        _ => 1e-9,
+        9 => 1e-9,
+        _ => 9e-10,
     }
 }
 
@@ -56,11 +57,11 @@ fn with_rare(kind: u64, draw: u32, x: f64) -> f64 {
 }
 
 // Row r, column c: whole numbers; a large diagonal; nearly one row many times; one row many times; some infinite; half of
-// them 0; huge rows among small ones; some NaN; pivots about 1e-9; pivots of 1e-9.
+// them 0; huge rows among small ones; some NaN; pivots about 1e-9; pivots of 1e-9; and in a worked case pivots of 9e-10.
 fn entry(kind: u64, r: u64, c: u64, draw: u32) -> f64 {
     let x = drawn(draw);
     match kind {
-        1 | 8 | 9 => if r == c {
+        1 | 8 | 9 | 10 => if r == c {
             diagonal(kind, x)
         } else {
             beside(kind, x)

@@ -1,9 +1,9 @@
--- `cases::bins::place_of_one`: it is safe and ends. Assumes nothing.
+-- `cases::worked::place_of_one`: it is safe and ends. Assumes nothing.
 use Prim.Native.Nat.{_≤_, _-_}
 use lib.ListN.{length}
 use borrow.Author.Needs.{needs}
-use Rattle.cases.proofs.bins.place_of_one.Statement.{statement}
-use Rattle.cases.proofs.bins.place_of_one.Tie as tie
+use Rattle.cases.proofs.worked.place_of_one.Statement.{statement}
+use Rattle.cases.proofs.worked.place_of_one.Tie as tie
 
 abbrev Inv-loop : tie.InvT-loop
 Inv-loop counts i₀ i-end i = (i ≤ i-end) × (i-end ≤ length counts)

@@ -1,0 +1,40 @@
+-- `cases::planes::fill`: it is safe and ends. Assumes nothing.
+use mathlib.Core.Path.{_≡_}
+use Prim.Native.Nat.{_+_, _≤_, _-_}
+use lib.ListN.{length}
+use borrow.Author.Needs.{needs}
+use Rattle.cases.proofs.planes.fill.Statement.{statement}
+use Rattle.cases.proofs.planes.fill.Tie as tie
+
+abbrev Inv-loop : tie.InvT-loop
+Inv-loop values₀ at n plane samples columns common₀ own₀ i₀ i-end values common own i = (i ≤ i-end) × ((at + i-end ≤ length values₀) × (length values ≡ length values₀))
+
+abbrev μ-loop : tie.MeasureT-loop
+μ-loop values₀ at n plane samples columns common₀ own₀ i₀ i-end values common own i = i-end - i
+
+pub fill-spec : {M : Type 1} → statement M
+fill-spec =
+    tie.close
+    (tie.spec
+    Inv-loop
+    μ-loop
+    (λ c. search needs)
+    (λ c. search needs)
+    (λ c. search needs)
+    (λ c κs. search needs)
+    (λ c κs. search needs)
+    (λ c κs. search needs)
+    (λ c. search needs)
+    (λ c. search needs)
+    (λ c κs. search needs)
+    (λ c κs. search needs)
+    (λ c. search needs)
+    (λ c κs. search needs)
+    (λ c κs. search needs)
+    (λ c. search needs)
+    (λ c. search needs)
+    (λ c. search needs)
+    (λ c. search needs)
+    (λ c. search needs)
+    (λ c. search needs)
+    (λ c. search needs))

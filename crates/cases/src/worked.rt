@@ -1,0 +1,107 @@
+// The scope's cases, each by its numbers, which are those of a recorded call:
+// "Bins: 8-bit 31 in 0, 32 in 1; 10-bit 1023 in 7; chroma 63 in 0, 64 in 1." "n = 6,400 wants 64 in a bin, 6,500 wants 65."
+// "Luma gate, width 4, height 1, 8 bits: noise 1,1,1,1 gives no (3/4). Noise 1,1,1,−1 then 1,−1,1,1: yes."
+// "Width 10, height 1: noise 1,1,−1,−1,1,1,−1,−1,1,1, second frame with 3 signs turned: 4/10, no; with 4 turned: yes."
+// "Width 2 at lag 1: no fit. Lag 4: 7." "Sizes 4,096 and 4,097; sample 255 and 256 at 8 bits; register bits 16 and 17."
+// "Order 0 and 26: 8. Pivot 1e-9 passes."
+use crate::answers::answer;
+use crate::case::Numbers;
+use crate::casts::count;
+use crate::casts::wide;
+use crate::casts::yes;
+use crate::frame_calls::fit_of;
+use crate::frame_calls::profile_of;
+use crate::number_calls::random_register;
+use crate::number_calls::solved;
+use crate::planes::planes;
+use crate::reads::read;
+
+// The first place that holds a 1.
+fn place_of_one(counts: &[u64]) -> u64 {
+    for i in 0..counts.len() {
+        if counts[i] == 1 {
+            return count(i);
+        }
+    }
+    count(counts.len())
+}
+
+fn profile_by(n: &Numbers) -> profile::NoiseEstimate {
+    let all = planes(n, 1);
+    profile_of(n, &all)
+}
+
+// The bin that one luma sample lies in.
+fn luma_bin(n: &Numbers) -> u64 {
+    let e = profile_by(n);
+    let luma = e.luma;
+    let counts = luma.bin_count;
+    place_of_one(&counts)
+}
+
+// The bin that one Cb sample lies in.
+fn cb_bin(n: &Numbers) -> u64 {
+    let e = profile_by(n);
+    let cb = e.cb;
+    let counts = cb.bin_count;
+    place_of_one(&counts)
+}
+
+// The sigma16 of bin 0: of a share of samples that are 1 over 0, where the others have no noise, 16 where they are enough, else the plane's, 2.
+fn first_bin(n: &Numbers) -> u64 {
+    let e = profile_by(n);
+    let luma = e.luma;
+    luma.bin_sigma16[0]
+}
+
+// Whether there is a fit.
+fn fit_found(n: &Numbers) -> u64 {
+    let all = planes(n, 1);
+    yes(fit_of(n, &all).found)
+}
+
+// What the register draws, or the number that it refuses with.
+fn register_bits(n: &Numbers) -> u64 {
+    let a = random_register(n);
+    if a.refusal == 0 {
+        return a.value >> 16;
+    }
+    wide(a.refusal)
+}
+
+// What a call refuses with.
+fn refusal_of(call: u64, n: &Numbers) -> u64 {
+    wide(answer(call, n).refusal)
+}
+
+// What the row correlation refuses with; 1000 where it does not.
+fn rho_refusal(n: &Numbers) -> u64 {
+    let refusal = refusal_of(2, n);
+    if refusal == 0 {
+        return 1000;
+    }
+    refusal
+}
+
+fn figure_of(n: &Numbers) -> u64 {
+    match n[1] {
+        60 => luma_bin(n),
+        61 => cb_bin(n),
+        62 => first_bin(n),
+        63 => fit_found(n),
+        64 => yes(solved(n).found),
+        65 => register_bits(n),
+        66 => rho_refusal(n),
+        _ => read(n),
+    }
+}
+
+// 20 and a call: its refusal; 40 and a call: its answer; from 60 on other figures.
+pub fn worked(n: &Numbers) -> u64 {
+    let call = n[1] % 20;
+    match n[1] / 20 {
+        1 => refusal_of(call, n),
+        2 => answer(call, n).value,
+        _ => figure_of(n),
+    }
+}
