@@ -3,31 +3,25 @@ use crate::casts::low8;
 use crate::casts::size;
 use frame::Shape;
 
-// The refusal and the answer that the Rust gave, then what it was asked.
-pub type Numbers = [u64; 13];
-
-// Where the numbers of a call on planes stand.
-pub const KIND: usize = 2;
-
-pub const SHARE: usize = 3;
-
-pub const SEED: usize = 4;
-
-pub const WIDTH: usize = 5;
-
-pub const HEIGHT: usize = 6;
-// The samples that the shape asks for, of luma and of chroma.
-pub const LUMA: usize = 7;
-
-pub const CHROMA: usize = 10;
-
-pub const DEPTH: usize = 8;
-
-pub const FORMAT: usize = 9;
-// 0; or 8, 16 or 24 and a plane (1 to 3 source, 4 to 6 denoised) that is a sample short, or a sample long, or has one too high.
-pub const FAULT: usize = 11;
-// A lag, or a sigma16.
-pub const ARGUMENT: usize = 12;
+// The refusal and the answer that the Rust gave, then what it was asked. A call on numbers has them from `kind` on.
+pub struct Case {
+    pub refusal: u64,
+    pub answer: u64,
+    pub kind: u64,
+    pub share: u64,
+    pub seed: u64,
+    pub width: u64,
+    pub height: u64,
+    // The samples that the shape asks for, of luma and of chroma.
+    pub luma: u64,
+    pub depth: u64,
+    pub format: u64,
+    pub chroma: u64,
+    // 0; or 8, 16 or 24 and a plane (1 to 3 source, 4 to 6 denoised) that is a sample short, or a sample long, or has one too high.
+    pub fault: u64,
+    // A lag, or a sigma16.
+    pub argument: u64,
+}
 
 // What a call answered: its refusal, and the rest as one number.
 pub struct Answer {
@@ -35,11 +29,29 @@ pub struct Answer {
     pub value: u64,
 }
 
-pub fn shape_of(n: &Numbers) -> Shape {
+pub fn case_of(n: &[u64; 13]) -> Case {
+    Case {
+        refusal: n[0],
+        answer: n[1],
+        kind: n[2],
+        share: n[3],
+        seed: n[4],
+        width: n[5],
+        height: n[6],
+        luma: n[7],
+        depth: n[8],
+        format: n[9],
+        chroma: n[10],
+        fault: n[11],
+        argument: n[12],
+    }
+}
+
+pub fn shape_of(c: Case) -> Shape {
     Shape {
-        width: size(n[WIDTH]),
-        height: size(n[HEIGHT]),
-        depth: low8(n[DEPTH]),
-        format: low8(n[FORMAT]),
+        width: size(c.width),
+        height: size(c.height),
+        depth: low8(c.depth),
+        format: low8(c.format),
     }
 }

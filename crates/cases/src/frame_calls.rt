@@ -1,7 +1,6 @@
 // What the calls on a frame answer.
-use crate::case::ARGUMENT;
 use crate::case::Answer;
-use crate::case::Numbers;
+use crate::case::Case;
 use crate::case::shape_of;
 use crate::casts::count;
 use crate::casts::signed;
@@ -17,17 +16,17 @@ use crate::planes::plane;
 
 // The destinations as a digest, after a refusal too.
 fn denoise_into(
-    n: &Numbers,
+    c: Case,
     all: &[u16],
     y_den: &mut [u16],
     cb_den: &mut [u16],
     cr_den: &mut [u16],
 ) -> Answer {
     let refusal = denoise::denoise_frame(
-        shape_of(n),
-        part(all, n, 1, 1),
-        part(all, n, 1, 2),
-        part(all, n, 1, 3),
+        shape_of(c),
+        part(all, c, 1, 1),
+        part(all, c, 1, 2),
+        part(all, c, 1, 3),
         y_den,
         cb_den,
         cr_den,
@@ -38,31 +37,31 @@ fn denoise_into(
     }
 }
 
-pub fn denoise_frame(n: &Numbers, all: &[u16]) -> Answer {
-    let mut y_den = plane(n, 1, 4);
-    let mut cb_den = plane(n, 1, 5);
-    let mut cr_den = plane(n, 1, 6);
-    let a = lent(n, 1, 4);
-    let b = lent(n, 1, 5);
-    let c = lent(n, 1, 6);
+pub fn denoise_frame(c: Case, all: &[u16]) -> Answer {
+    let mut y_den = plane(c, 1, 4);
+    let mut cb_den = plane(c, 1, 5);
+    let mut cr_den = plane(c, 1, 6);
+    let y_count = lent(c, 1, 4);
+    let cb_count = lent(c, 1, 5);
+    let cr_count = lent(c, 1, 6);
     denoise_into(
-        n,
+        c,
         all,
-        &mut y_den[0..a],
-        &mut cb_den[0..b],
-        &mut cr_den[0..c],
+        &mut y_den[0..y_count],
+        &mut cb_den[0..cb_count],
+        &mut cr_den[0..cr_count],
     )
 }
 
-pub fn profile_of(n: &Numbers, all: &[u16]) -> profile::NoiseEstimate {
+pub fn profile_of(c: Case, all: &[u16]) -> profile::NoiseEstimate {
     profile::noise_estimate(
-        shape_of(n),
-        part(all, n, 1, 1),
-        part(all, n, 1, 2),
-        part(all, n, 1, 3),
-        part(all, n, 1, 4),
-        part(all, n, 1, 5),
-        part(all, n, 1, 6),
+        shape_of(c),
+        part(all, c, 1, 1),
+        part(all, c, 1, 2),
+        part(all, c, 1, 3),
+        part(all, c, 1, 4),
+        part(all, c, 1, 5),
+        part(all, c, 1, 6),
     )
 }
 
@@ -77,8 +76,8 @@ fn chroma_into(digest: u64, chroma: profile::ChromaProfile) -> u64 {
     numbers_into(mixed(digest, chroma.sigma16), &bins)
 }
 
-pub fn noise_estimate(n: &Numbers, all: &[u16]) -> Answer {
-    let e = profile_of(n, all);
+pub fn noise_estimate(c: Case, all: &[u16]) -> Answer {
+    let e = profile_of(c, all);
     let luma = e.luma;
     let cb = e.cb;
     let cr = e.cr;
@@ -96,34 +95,34 @@ fn correlation_answer(r: correlation::ChromaCorr) -> Answer {
     }
 }
 
-pub fn fit_chroma_corr(n: &Numbers, all: &[u16]) -> Answer {
+pub fn fit_chroma_corr(c: Case, all: &[u16]) -> Answer {
     correlation_answer(correlation::fit_chroma_corr(
-        shape_of(n),
-        part(all, n, 1, 1),
-        part(all, n, 1, 2),
-        part(all, n, 1, 3),
-        part(all, n, 1, 4),
-        part(all, n, 1, 5),
-        part(all, n, 1, 6),
+        shape_of(c),
+        part(all, c, 1, 1),
+        part(all, c, 1, 2),
+        part(all, c, 1, 3),
+        part(all, c, 1, 4),
+        part(all, c, 1, 5),
+        part(all, c, 1, 6),
     ))
 }
 
-pub fn fit_of(n: &Numbers, all: &[u16]) -> fit::Fit {
+pub fn fit_of(c: Case, all: &[u16]) -> fit::Fit {
     fit::fit_ar_lag(
-        shape_of(n),
-        part(all, n, 1, 1),
-        part(all, n, 1, 2),
-        part(all, n, 1, 3),
-        part(all, n, 1, 4),
-        part(all, n, 1, 5),
-        part(all, n, 1, 6),
-        size(n[ARGUMENT]),
+        shape_of(c),
+        part(all, c, 1, 1),
+        part(all, c, 1, 2),
+        part(all, c, 1, 3),
+        part(all, c, 1, 4),
+        part(all, c, 1, 5),
+        part(all, c, 1, 6),
+        size(c.argument),
     )
 }
 
 // Whether there is a fit, the count and the coefficients as a digest.
-pub fn fit_ar_lag(n: &Numbers, all: &[u16]) -> Answer {
-    let f = fit_of(n, all);
+pub fn fit_ar_lag(c: Case, all: &[u16]) -> Answer {
+    let f = fit_of(c, all);
     let luma = f.luma;
     let cb = f.cb;
     let cr = f.cr;

@@ -1,6 +1,6 @@
 // The calls on numbers.
 use crate::case::Answer;
-use crate::case::Numbers;
+use crate::case::Case;
 use crate::casts::count;
 use crate::casts::float_of;
 use crate::casts::low16;
@@ -17,14 +17,14 @@ use crate::systems::matrix;
 use crate::systems::row;
 use random::Draw;
 
-pub fn solved(n: &Numbers) -> solve::Solved {
-    let seed = low32(n[4]);
-    solve::solve_normal(matrix(n[2], seed), row(0, 25, seed), size(n[3]))
+pub fn solved(c: Case) -> solve::Solved {
+    let seed = low32(c.seed);
+    solve::solve_normal(matrix(c.kind, seed), row(0, 25, seed), size(c.share))
 }
 
 // Whether there is a solution, its order and its values as a digest.
-pub fn solve_normal(n: &Numbers) -> Answer {
-    let s = solved(n);
+pub fn solve_normal(c: Case) -> Answer {
+    let s = solved(c);
     let solution = s.solution;
     let values = solution.values;
     let head = mixed(mixed(0, yes(s.found)), count(solution.order));
@@ -44,21 +44,21 @@ fn positions_answer(p: positions::Positions) -> Answer {
     }
 }
 
-pub fn ar_positions(n: &Numbers) -> Answer {
-    positions_answer(positions::ar_positions(size(n[2])))
+pub fn ar_positions(c: Case) -> Answer {
+    positions_answer(positions::ar_positions(size(c.kind)))
 }
 
-pub fn quant_ar(n: &Numbers) -> Answer {
+pub fn quant_ar(c: Case) -> Answer {
     Answer {
         refusal: 0,
-        value: signed(float::quant_ar(float_of(n[2]))),
+        value: signed(float::quant_ar(float_of(c.kind))),
     }
 }
 
-pub fn grain_seed_for(n: &Numbers) -> Answer {
+pub fn grain_seed_for(c: Case) -> Answer {
     Answer {
         refusal: 0,
-        value: wide16(random::grain_seed_for(low32(n[2]))),
+        value: wide16(random::grain_seed_for(low32(c.kind))),
     }
 }
 
@@ -76,8 +76,8 @@ fn draw_answer(draw: Draw, state: u64) -> Answer {
     }
 }
 
-pub fn random_register(n: &Numbers) -> Answer {
-    let s = random::draw_from(low16(n[2]), low32(n[3]));
+pub fn random_register(c: Case) -> Answer {
+    let s = random::draw_from(low16(c.kind), low32(c.share));
     let after = s.register;
     let draw = s.draw;
     draw_answer(draw, wide16(after.state))

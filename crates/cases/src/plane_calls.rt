@@ -1,10 +1,6 @@
 // What the calls on a lone plane answer.
-use crate::case::ARGUMENT;
 use crate::case::Answer;
-use crate::case::DEPTH;
-use crate::case::HEIGHT;
-use crate::case::Numbers;
-use crate::case::WIDTH;
+use crate::case::Case;
 use crate::casts::bits;
 use crate::casts::low8;
 use crate::casts::size;
@@ -13,8 +9,8 @@ use crate::planes::lent;
 use crate::planes::part;
 use crate::planes::plane;
 
-fn denoise_into(n: &Numbers, src: &[u16], dst: &mut [u16]) -> Answer {
-    let refusal = denoise::denoise_plane(src, dst, size(n[WIDTH]), size(n[HEIGHT]));
+fn denoise_into(c: Case, src: &[u16], dst: &mut [u16]) -> Answer {
+    let refusal = denoise::denoise_plane(src, dst, size(c.width), size(c.height));
     Answer {
         refusal,
         value: samples_into(0, dst),
@@ -22,19 +18,19 @@ fn denoise_into(n: &Numbers, src: &[u16], dst: &mut [u16]) -> Answer {
 }
 
 // The destination as a digest, after a refusal too.
-pub fn denoise_plane(n: &Numbers, all: &[u16]) -> Answer {
-    let mut dst = plane(n, 1, 4);
-    let count = lent(n, 1, 4);
-    denoise_into(n, part(all, n, 1, 1), &mut dst[0..count])
+pub fn denoise_plane(c: Case, all: &[u16]) -> Answer {
+    let mut dst = plane(c, 1, 4);
+    let count = lent(c, 1, 4);
+    denoise_into(c, part(all, c, 1, 1), &mut dst[0..count])
 }
 
-pub fn plane_sigma16(n: &Numbers, all: &[u16]) -> Answer {
+pub fn plane_sigma16(c: Case, all: &[u16]) -> Answer {
     let s = profile::plane_sigma16(
-        part(all, n, 1, 1),
-        part(all, n, 1, 4),
-        size(n[WIDTH]),
-        size(n[HEIGHT]),
-        low8(n[DEPTH]),
+        part(all, c, 1, 1),
+        part(all, c, 1, 4),
+        size(c.width),
+        size(c.height),
+        low8(c.depth),
     );
     Answer {
         refusal: s.refusal,
@@ -56,13 +52,13 @@ fn rho_answer(rho: gate::Rho) -> Answer {
     }
 }
 
-pub fn lag_h_rho(n: &Numbers, all: &[u16]) -> Answer {
+pub fn lag_h_rho(c: Case, all: &[u16]) -> Answer {
     rho_answer(gate::lag_h_rho(
-        part(all, n, 1, 1),
-        part(all, n, 1, 4),
-        size(n[WIDTH]),
-        size(n[HEIGHT]),
-        size(n[ARGUMENT]),
-        low8(n[DEPTH]),
+        part(all, c, 1, 1),
+        part(all, c, 1, 4),
+        size(c.width),
+        size(c.height),
+        size(c.argument),
+        low8(c.depth),
     ))
 }

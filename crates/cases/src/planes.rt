@@ -1,15 +1,6 @@
 // The planes of a recorded call, made from its numbers; the recorder makes the same ones. Planes 1 to 3 are sources, 4 to 6 their
 // denoised copies. All six stand in one array, each with room of its own.
-use crate::case::CHROMA;
-use crate::case::DEPTH;
-use crate::case::FAULT;
-use crate::case::FORMAT;
-use crate::case::KIND;
-use crate::case::LUMA;
-use crate::case::Numbers;
-use crate::case::SEED;
-use crate::case::SHARE;
-use crate::case::WIDTH;
+use crate::case::Case;
 use crate::casts::count;
 use crate::casts::low16;
 use crate::casts::low32;
@@ -92,22 +83,22 @@ fn moved(level: u16, rises: bool, size: u16, top: u16) -> u16 {
 // and 128 in the others, of a single row.
 
 // Whether the sign of a column is positive.
-fn sign_of(n: &Numbers, pair: u32, column: u64) -> bool {
+fn sign_of(c: Case, pair: u32, column: u64) -> bool {
     if pair == 1 {
-        return (n[SHARE] >> (column % 64)) % 2 == 1;
+        return (c.share >> (column % 64)) % 2 == 1;
     }
-    (n[SEED] >> (column % 64)) % 2 == 1
+    (c.seed >> (column % 64)) % 2 == 1
 }
 
 // Whether a noise is positive.
-fn is_up(n: &Numbers, pair: u32, column: u64, draw: u32) -> bool {
-    match n[KIND] % 16 {
+fn is_up(c: Case, pair: u32, column: u64, draw: u32) -> bool {
+    match c.kind % 16 {
         4 | 10 | 13 | 15 => true,
         6 | 11 => column % 2 == 0,
         7 => column / 8 % 2 == 0,
         8 => column / 16 % 2 == 0,
         12 => 0x5a3c_96e1 / (1 + column % 31) % 2 == 0,
-        14 => sign_of(n, pair, column),
+        14 => sign_of(c, pair, column),
         _ => draw < 0x8000_0000,
     }
 }
@@ -118,8 +109,8 @@ fn either(first: bool, a: u16, b: u16) -> u16 {
 }
 
 // The size of a noise.
-fn size_of(n: &Numbers, top: u16, column: u64, draw: u64) -> u16 {
-    match n[KIND] % 16 {
+fn size_of(c: Case, top: u16, column: u64, draw: u64) -> u16 {
+    match c.kind % 16 {
         0 => low16(draw) & (top >> 5),
         1 => low16(draw) & top,
         3 | 10 => top,
@@ -129,7 +120,7 @@ fn size_of(n: &Numbers, top: u16, column: u64, draw: u64) -> u16 {
         11 => either(draw % 64 == 0, 1, 2),
         12 => 5,
         13 => low16(column % 8),
-        15 => either(column < n[SHARE], 1, 0),
+        15 => either(column < c.share, 1, 0),
         _ => 0,
     }
 }
@@ -145,13 +136,13 @@ fn lessened(kind: u64, pair: u32, size: u16) -> u16 {
 }
 
 // The denoised sample of a level.
-fn drawn_level(n: &Numbers, top: u16, column: u64, own: u32) -> u16 {
+fn drawn_level(c: Case, top: u16, column: u64, own: u32) -> u16 {
     let drawn = low16(wide(own / 65536));
-    match n[KIND] / 16 {
+    match c.kind / 16 {
         0 => drawn & top,
         1 => top / 2,
-        4 => low16(n[SHARE]),
-        5 => either(column < n[SHARE], 0, 128),
+        4 => low16(c.share),
+        5 => either(column < c.share, 0, 128),
         _ => drawn & (top >> 4),
     }
 }
@@ -168,24 +159,24 @@ fn drawn(share: u64, pair: u32, common: u32, own: u32) -> u32 {
 }
 
 // The denoised sample.
-fn level_of(n: &Numbers, top: u16, column: u64, rises: bool, own: u32) -> u16 {
-    match n[KIND] % 16 {
+fn level_of(c: Case, top: u16, column: u64, rises: bool, own: u32) -> u16 {
+    match c.kind % 16 {
         3 | 10 => either(rises, 0, top),
-        _ => drawn_level(n, top, column, own),
+        _ => drawn_level(c, top, column, own),
     }
 }
 
-fn sample(n: &Numbers, plane: u64, column: u64, common: u32, own: u32) -> u16 {
+fn sample(c: Case, plane: u64, column: u64, common: u32, own: u32) -> u16 {
     let pair = pair_of(plane);
-    let top = top_of(n[DEPTH]);
-    let draw = drawn(n[SHARE], pair, common, own);
-    let rises = is_up(n, pair, column, draw);
-    let level = level_of(n, top, column, rises, own);
+    let top = top_of(c.depth);
+    let draw = drawn(c.share, pair, common, own);
+    let rises = is_up(c, pair, column, draw);
+    let level = level_of(c, top, column, rises, own);
     if 3 < plane {
         return level;
     }
-    let size = size_of(n, top, column, wide(draw / 256));
-    moved(level, rises, lessened(n[KIND], pair, size), top)
+    let size = size_of(c, top, column, wide(draw / 256));
+    moved(level, rises, lessened(c.kind, pair, size), top)
 }
 
 fn column_of(i: usize, columns: usize) -> u64 {
@@ -196,81 +187,81 @@ fn column_of(i: usize, columns: usize) -> u64 {
 }
 
 // Where the draws of a pair begin; those of 0 are common to all pairs.
-fn first_draw(n: &Numbers, pair: u32) -> u32 {
-    start(low32(n[SEED]), pair)
+fn first_draw(c: Case, pair: u32) -> u32 {
+    start(low32(c.seed), pair)
 }
 
 // The first samples of a plane that begins at a place, one more than `samples`.
-fn fill(values: &mut [u16], at: usize, n: &Numbers, plane: u64, samples: usize, columns: usize) {
+fn fill(values: &mut [u16], at: usize, c: Case, plane: u64, samples: usize, columns: usize) {
     if values.len() <= at {
         return;
     }
     if values.len() - at <= samples {
         return;
     }
-    let mut common = first_draw(n, 0);
-    let mut own = first_draw(n, pair_of(plane));
+    let mut common = first_draw(c, 0);
+    let mut own = first_draw(c, pair_of(plane));
     for i in 0..samples + 1 {
         common = next(common);
         own = next(own);
         let j = at + i;
-        values[j] = sample(n, plane, column_of(i, columns), common, own);
+        values[j] = sample(c, plane, column_of(i, columns), common, own);
     }
 }
 
 // A sample that is too high, where the fault asks for one.
-fn raise(values: &mut [u16], at: usize, n: &Numbers, plane: u64, i: usize) {
-    if n[FAULT] == 24 + plane % 8 {
+fn raise(values: &mut [u16], at: usize, c: Case, plane: u64, i: usize) {
+    if c.fault == 24 + plane % 8 {
         if at < values.len() {
             if i < values.len() - at {
-                values[at + i] = above_top(n[DEPTH]);
+                values[at + i] = above_top(c.depth);
             }
         }
     }
 }
 
 // The samples that the shape asks for: the first `lumas` pairs are of luma's size, the others of chroma's.
-fn samples_of(n: &Numbers, lumas: u32, plane: u64) -> usize {
+fn samples_of(c: Case, lumas: u32, plane: u64) -> usize {
     if pair_of(plane) <= lumas {
-        return size(n[LUMA]);
+        return size(c.luma);
     }
-    size(n[CHROMA])
+    size(c.chroma)
 }
 
-fn columns_of(n: &Numbers, lumas: u32, plane: u64) -> usize {
-    let width = size(n[WIDTH]);
-    if n[KIND] / 16 == 5 {
+fn columns_of(c: Case, lumas: u32, plane: u64) -> usize {
+    let width = size(c.width);
+    if c.kind / 16 == 5 {
         return ROOM;
     }
     if pair_of(plane) <= lumas {
         return width;
     }
-    match n[FORMAT] {
+    match c.format {
         1 | 2 => width / 2 + width % 2,
         _ => width,
     }
 }
 
-fn make(values: &mut [u16], at: usize, n: &Numbers, lumas: u32, plane: u64) {
-    let samples = samples_of(n, lumas, plane);
-    fill(values, at, n, plane, samples, columns_of(n, lumas, plane));
-    raise(values, at, n, plane, samples / 2);
+fn make(values: &mut [u16], at: usize, c: Case, lumas: u32, plane: u64) {
+    let samples = samples_of(c, lumas, plane);
+    fill(values, at, c, plane, samples, columns_of(c, lumas, plane));
+    raise(values, at, c, plane, samples / 2);
 }
 
 // A plane by itself.
-pub fn plane(n: &Numbers, lumas: u32, plane: u64) -> [u16; ROOM]
+pub fn plane(c: Case, lumas: u32, plane: u64) -> [u16; ROOM]
     ensures { λ r. ⌜ 8256 ≡ length r ⌝ }
 {
     let mut values = [0; ROOM];
-    make(&mut values, 0, n, lumas, plane);
+    make(&mut values, 0, c, lumas, plane);
     values
 }
 
 // All six planes.
-pub fn planes(n: &Numbers, lumas: u32) -> [u16; ALL] {
+pub fn planes(c: Case, lumas: u32) -> [u16; ALL] {
     let mut all = [0; ALL];
     for k in 0..6 {
-        make(&mut all, start_of(k + 1), n, lumas, k + 1);
+        make(&mut all, start_of(k + 1), c, lumas, k + 1);
     }
     all
 }
@@ -294,16 +285,16 @@ fn lent_of(fault: u64, plane: u64, samples: usize) -> usize
 }
 
 // How many samples of a plane are lent.
-pub fn lent(n: &Numbers, lumas: u32, plane: u64) -> usize
+pub fn lent(c: Case, lumas: u32, plane: u64) -> usize
     ensures { λ r. ⌜ r ≤ 8256 ⌝ }
 {
-    lent_of(n[FAULT], plane, samples_of(n, lumas, plane))
+    lent_of(c.fault, plane, samples_of(c, lumas, plane))
 }
 
 // The samples of a plane that are lent, of all.
-pub fn part<'a>(all: &'a [u16], n: &Numbers, lumas: u32, plane: u64) -> &'a [u16] {
+pub fn part<'a>(all: &'a [u16], c: Case, lumas: u32, plane: u64) -> &'a [u16] {
     let at = start_of(plane);
-    let end = at + lent(n, lumas, plane);
+    let end = at + lent(c, lumas, plane);
     if end <= all.len() {
         return &all[at..end];
     }

@@ -1,5 +1,5 @@
 // "a reader record of rows, columns and the lent u16 samples": a read of a plane, held at the edges as `PlaneBuffer::get` holds it.
-use crate::case::Numbers;
+use crate::case::Case;
 use crate::casts::size;
 use crate::casts::wide16;
 use reader::Sample;
@@ -23,14 +23,14 @@ fn place_of(n: u64) -> i32 {
 }
 
 // The rows, the columns, the row and the column, and how many of these samples are lent.
-pub fn read(n: &Numbers) -> u64 {
+pub fn read(c: Case) -> u64 {
     let samples = [10, 11, 12, 20, 21, 22, 30, 31];
-    let count = (n[6] % 8) as usize;
+    let count = (c.height % 8) as usize;
     number_of(reader::sample_of(
         &samples[0..count],
-        size(n[2]),
-        size(n[3]),
-        place_of(n[4]),
-        place_of(n[5]),
+        size(c.kind),
+        size(c.share),
+        place_of(c.seed),
+        place_of(c.width),
     ))
 }

@@ -1,6 +1,7 @@
 // The recorded list: what the Rust answered, and the numbers of each refused call, against what the calls answer here.
 use crate::answers::answer;
-use crate::case::Numbers;
+use crate::case::Case;
+use crate::case::case_of;
 use crate::casts::count;
 use crate::casts::wide;
 use crate::lines::line_at;
@@ -20,18 +21,18 @@ fn say_answer(name: &[u8], word: &[u8], line: usize, refusal: u64, value: u64) {
 }
 
 // 1 where a line's answer is another than the recorded one, which is then written.
-fn difference(name: &[u8], call: u64, line: usize, n: &Numbers) -> usize
+fn difference(name: &[u8], call: u64, line: usize, c: Case) -> usize
     ensures { λ r. ⌜ r ≤ 1 ⌝ }
 {
-    let a = answer(call, n);
+    let a = answer(call, c);
     let refusal = wide(a.refusal);
-    if refusal == n[0] {
-        if a.value == n[1] {
+    if refusal == c.refusal {
+        if a.value == c.answer {
             return 0;
         }
     }
     say_answer(name, b" line ", line, refusal, a.value);
-    say_answer(name, b" recorded, line ", line, n[0], n[1]);
+    say_answer(name, b" recorded, line ", line, c.refusal, c.answer);
     1
 }
 
@@ -49,7 +50,7 @@ fn compare(name: &[u8], call: u64, list: &[u8]) {
         let l = line_at(list, at);
         let numbers = l.numbers;
         line += 1;
-        differences += difference(name, call, line, &numbers);
+        differences += difference(name, call, line, case_of(&numbers));
         at = l.next;
     }
     say_counts(name, line, differences);

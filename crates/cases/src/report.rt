@@ -1,5 +1,6 @@
 // The report: data/report has a line for each of its lines, with the name, a colon, and the numbers of what is asked.
-use crate::case::Numbers;
+use crate::case::Case;
+use crate::case::case_of;
 use crate::lines::colon_at;
 use crate::lines::line_at;
 use crate::replay::load;
@@ -8,12 +9,12 @@ use crate::say::say;
 use crate::worked::worked;
 
 // A call, whose list is replayed; or a worked case.
-fn entry(name: &[u8], n: &Numbers) {
-    if n[1] < 20 {
-        replay(name, n[1]);
+fn entry(name: &[u8], c: Case) {
+    if c.answer < 20 {
+        replay(name, c.answer);
         return;
     }
-    say(name, worked(n));
+    say(name, worked(c));
     io::write_all(libc::STDOUT_FILENO, b"\n");
 }
 
@@ -23,7 +24,7 @@ fn write(text: &[u8]) {
         let colon = colon_at(text, at);
         let l = line_at(text, colon);
         let numbers = l.numbers;
-        entry(&text[at..colon], &numbers);
+        entry(&text[at..colon], case_of(&numbers));
         at = l.next;
     }
 }

@@ -5,7 +5,7 @@
 // "Width 2 at lag 1: no fit. Lag 4: 7." "Sizes 4,096 and 4,097; sample 255 and 256 at 8 bits; register bits 16 and 17."
 // "Order 0 and 26: 8. Pivot 1e-9 passes."
 use crate::answers::answer;
-use crate::case::Numbers;
+use crate::case::Case;
 use crate::casts::count;
 use crate::casts::wide;
 use crate::casts::yes;
@@ -26,43 +26,43 @@ fn place_of_one(counts: &[u64]) -> u64 {
     count(counts.len())
 }
 
-fn profile_by(n: &Numbers) -> profile::NoiseEstimate {
-    let all = planes(n, 1);
-    profile_of(n, &all)
+fn profile_by(c: Case) -> profile::NoiseEstimate {
+    let all = planes(c, 1);
+    profile_of(c, &all)
 }
 
 // The bin that one luma sample lies in.
-fn luma_bin(n: &Numbers) -> u64 {
-    let e = profile_by(n);
+fn luma_bin(c: Case) -> u64 {
+    let e = profile_by(c);
     let luma = e.luma;
     let counts = luma.bin_count;
     place_of_one(&counts)
 }
 
 // The bin that one Cb sample lies in.
-fn cb_bin(n: &Numbers) -> u64 {
-    let e = profile_by(n);
+fn cb_bin(c: Case) -> u64 {
+    let e = profile_by(c);
     let cb = e.cb;
     let counts = cb.bin_count;
     place_of_one(&counts)
 }
 
 // The sigma16 of bin 0: of a share of samples that are 1 over 0, where the others have no noise, 16 where they are enough, else the plane's, 2.
-fn first_bin(n: &Numbers) -> u64 {
-    let e = profile_by(n);
+fn first_bin(c: Case) -> u64 {
+    let e = profile_by(c);
     let luma = e.luma;
     luma.bin_sigma16[0]
 }
 
 // Whether there is a fit.
-fn fit_found(n: &Numbers) -> u64 {
-    let all = planes(n, 1);
-    yes(fit_of(n, &all).found)
+fn fit_found(c: Case) -> u64 {
+    let all = planes(c, 1);
+    yes(fit_of(c, &all).found)
 }
 
 // What the register draws, or the number that it refuses with.
-fn register_bits(n: &Numbers) -> u64 {
-    let a = random_register(n);
+fn register_bits(c: Case) -> u64 {
+    let a = random_register(c);
     if a.refusal == 0 {
         return a.value >> 16;
     }
@@ -70,38 +70,39 @@ fn register_bits(n: &Numbers) -> u64 {
 }
 
 // What a call refuses with.
-fn refusal_of(call: u64, n: &Numbers) -> u64 {
-    wide(answer(call, n).refusal)
+fn refusal_of(call: u64, c: Case) -> u64 {
+    wide(answer(call, c).refusal)
 }
 
 // What the row correlation refuses with; 1000 where it does not.
-fn rho_refusal(n: &Numbers) -> u64 {
-    let refusal = refusal_of(2, n);
+fn rho_refusal(c: Case) -> u64 {
+    let refusal = refusal_of(2, c);
     if refusal == 0 {
         return 1000;
     }
     refusal
 }
 
-fn figure_of(n: &Numbers) -> u64 {
-    match n[1] {
-        60 => luma_bin(n),
-        61 => cb_bin(n),
-        62 => first_bin(n),
-        63 => fit_found(n),
-        64 => yes(solved(n).found),
-        65 => register_bits(n),
-        66 => rho_refusal(n),
-        _ => read(n),
+fn figure_of(c: Case) -> u64 {
+    let figure = c.answer;
+    match figure {
+        60 => luma_bin(c),
+        61 => cb_bin(c),
+        62 => first_bin(c),
+        63 => fit_found(c),
+        64 => yes(solved(c).found),
+        65 => register_bits(c),
+        66 => rho_refusal(c),
+        _ => read(c),
     }
 }
 
 // 20 and a call: its refusal; 40 and a call: its answer; from 60 on other figures.
-pub fn worked(n: &Numbers) -> u64 {
-    let call = n[1] % 20;
-    match n[1] / 20 {
-        1 => refusal_of(call, n),
-        2 => answer(call, n).value,
-        _ => figure_of(n),
+pub fn worked(c: Case) -> u64 {
+    let call = c.answer % 20;
+    match c.answer / 20 {
+        1 => refusal_of(call, c),
+        2 => answer(call, c).value,
+        _ => figure_of(c),
     }
 }

@@ -1,4 +1,4 @@
--- `cases::report::write`: it is safe and ends: each line is further on. Assumes nothing.
+-- `cases::report::write`: it is safe and ends: each line begins further on. Assumes nothing.
 use Prim.Native.Nat.{_≤_, _-_}
 use lib.ListN.{length}
 use borrow.Author.Needs.{needs}
@@ -23,6 +23,7 @@ write-spec =
     (λ c. search needs)
     (λ c. search needs)
     (λ c. search needs)
+    (λ c κs. search needs)
     (λ c κs. search needs)
     (λ c. search needs)
     (λ c. search needs)
