@@ -2,9 +2,7 @@
 use crate::case::Answer;
 use crate::case::Case;
 use crate::case::shape_of;
-use crate::casts::count;
 use crate::casts::signed;
-use crate::casts::size;
 use crate::casts::yes;
 use crate::digests::coefficients_into;
 use crate::digests::numbers_into;
@@ -116,7 +114,7 @@ pub fn fit_of(c: Case, all: &[u16]) -> fit::Fit {
         part(all, c, 1, 4),
         part(all, c, 1, 5),
         part(all, c, 1, 6),
-        size(c.argument),
+        c.argument as usize,
     )
 }
 
@@ -126,7 +124,7 @@ pub fn fit_ar_lag(c: Case, all: &[u16]) -> Answer {
     let luma = f.luma;
     let cb = f.cb;
     let cr = f.cr;
-    let head = mixed(mixed(0, yes(f.found)), count(f.count));
+    let head = mixed(mixed(0, yes(f.found)), f.count as u64);
     Answer {
         refusal: f.refusal,
         value: coefficients_into(coefficients_into(coefficients_into(head, &luma), &cb), &cr),

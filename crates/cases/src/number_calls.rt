@@ -1,14 +1,9 @@
 // The calls on numbers.
 use crate::case::Answer;
 use crate::case::Case;
-use crate::casts::count;
 use crate::casts::float_of;
-use crate::casts::low16;
 use crate::casts::low32;
 use crate::casts::signed;
-use crate::casts::size;
-use crate::casts::wide;
-use crate::casts::wide16;
 use crate::casts::yes;
 use crate::digests::coefficients_into;
 use crate::digests::floats_into;
@@ -19,7 +14,7 @@ use random::Draw;
 
 pub fn solved(c: Case) -> solve::Solved {
     let seed = low32(c.seed);
-    solve::solve_normal(matrix(c.kind, seed), row(0, 25, seed), size(c.share))
+    solve::solve_normal(matrix(c.kind, seed), row(0, 25, seed), c.share as usize)
 }
 
 // Whether there is a solution, its order and its values as a digest.
@@ -27,7 +22,7 @@ pub fn solve_normal(c: Case) -> Answer {
     let s = solved(c);
     let solution = s.solution;
     let values = solution.values;
-    let head = mixed(mixed(0, yes(s.found)), count(solution.order));
+    let head = mixed(mixed(0, yes(s.found)), solution.order as u64);
     Answer {
         refusal: s.refusal,
         value: floats_into(head, &values),
@@ -40,12 +35,12 @@ fn positions_answer(p: positions::Positions) -> Answer {
     let columns = p.columns;
     Answer {
         refusal: p.refusal,
-        value: coefficients_into(coefficients_into(mixed(0, count(p.count)), &rows), &columns),
+        value: coefficients_into(coefficients_into(mixed(0, p.count as u64), &rows), &columns),
     }
 }
 
 pub fn ar_positions(c: Case) -> Answer {
-    positions_answer(positions::ar_positions(size(c.kind)))
+    positions_answer(positions::ar_positions(c.kind as usize))
 }
 
 pub fn quant_ar(c: Case) -> Answer {
@@ -58,7 +53,7 @@ pub fn quant_ar(c: Case) -> Answer {
 pub fn grain_seed_for(c: Case) -> Answer {
     Answer {
         refusal: 0,
-        value: wide16(random::grain_seed_for(low32(c.kind))),
+        value: random::grain_seed_for(low32(c.kind)) as u64,
     }
 }
 
@@ -71,14 +66,14 @@ fn draw_answer(draw: Draw, state: u64) -> Answer {
         },
         Draw::Value(v) => Answer {
             refusal: 0,
-            value: (wide(v) << 16) | state,
+            value: ((v as u64) << 16) | state,
         },
     }
 }
 
 pub fn random_register(c: Case) -> Answer {
-    let s = random::draw_from(low16(c.kind), low32(c.share));
+    let s = random::draw_from((c.kind % 0x1_0000) as u16, low32(c.share));
     let after = s.register;
     let draw = s.draw;
-    draw_answer(draw, wide16(after.state))
+    draw_answer(draw, after.state as u64)
 }

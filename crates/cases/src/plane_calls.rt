@@ -2,15 +2,13 @@
 use crate::case::Answer;
 use crate::case::Case;
 use crate::casts::bits;
-use crate::casts::low8;
-use crate::casts::size;
 use crate::digests::samples_into;
 use crate::planes::lent;
 use crate::planes::part;
 use crate::planes::plane;
 
 fn denoise_into(c: Case, src: &[u16], dst: &mut [u16]) -> Answer {
-    let refusal = denoise::denoise_plane(src, dst, size(c.width), size(c.height));
+    let refusal = denoise::denoise_plane(src, dst, c.width, c.height);
     Answer {
         refusal,
         value: samples_into(0, dst),
@@ -28,9 +26,9 @@ pub fn plane_sigma16(c: Case, all: &[u16]) -> Answer {
     let s = profile::plane_sigma16(
         part(all, c, 1, 1),
         part(all, c, 1, 4),
-        size(c.width),
-        size(c.height),
-        low8(c.depth),
+        c.width,
+        c.height,
+        c.depth,
     );
     Answer {
         refusal: s.refusal,
@@ -56,9 +54,9 @@ pub fn lag_h_rho(c: Case, all: &[u16]) -> Answer {
     rho_answer(gate::lag_h_rho(
         part(all, c, 1, 1),
         part(all, c, 1, 4),
-        size(c.width),
-        size(c.height),
-        size(c.argument),
-        low8(c.depth),
+        c.width,
+        c.height,
+        c.argument as usize,
+        c.depth,
     ))
 }

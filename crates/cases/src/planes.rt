@@ -1,11 +1,7 @@
 // The planes of a recorded call, made from its numbers; the recorder makes the same ones. Planes 1 to 3 are sources, 4 to 6 their
 // denoised copies. All six stand in one array, each with room of its own.
 use crate::case::Case;
-use crate::casts::count;
-use crate::casts::low16;
 use crate::casts::low32;
-use crate::casts::size;
-use crate::casts::wide;
 use crate::draws::next;
 use crate::draws::start;
 ghost use Prim.Native.Nat.{_≤_};
@@ -41,7 +37,7 @@ fn start_of(plane: u64) -> usize
 }
 
 // The highest sample of a depth; all u16 where a call takes no depth, recorded as 16.
-fn top_of(depth: u64) -> u16 {
+fn top_of(depth: u8) -> u16 {
     match depth {
         16 => 65535,
         12 => 4095,
@@ -51,7 +47,7 @@ fn top_of(depth: u64) -> u16 {
 }
 
 // The first sample that is too high.
-fn above_top(depth: u64) -> u16 {
+fn above_top(depth: u8) -> u16 {
     match depth {
         12 => 4096,
         10 => 1024,
@@ -105,21 +101,26 @@ fn is_up(c: Case, pair: u32, column: u64, draw: u32) -> bool {
 
 // One of two sizes.
 fn either(first: bool, a: u16, b: u16) -> u16 {
-    if first { a } else { b }
+    if first {
+        return a;
+    }
+    b
 }
 
 // The size of a noise.
-fn size_of(c: Case, top: u16, column: u64, draw: u64) -> u16 {
+fn size_of(c: Case, top: u16, column: u64, draw: u32) -> u16 {
+    let drawn = (draw / 256 % 65536) as u16;
+    let rare = draw / 256 % 64 == 0;
     match c.kind % 16 {
-        0 => low16(draw) & (top >> 5),
-        1 => low16(draw) & top,
+        0 => drawn & (top >> 5),
+        1 => drawn & top,
         3 | 10 => top,
         4 | 5 | 14 => 1,
         6 | 7 | 8 => 2,
-        9 => either(draw % 64 == 0, 1, 0),
-        11 => either(draw % 64 == 0, 1, 2),
+        9 => either(rare, 1, 0),
+        11 => either(rare, 1, 2),
         12 => 5,
-        13 => low16(column % 8),
+        13 => (column % 8) as u16,
         15 => either(column < c.share, 1, 0),
         _ => 0,
     }
@@ -137,11 +138,11 @@ fn lessened(kind: u64, pair: u32, size: u16) -> u16 {
 
 // The denoised sample of a level.
 fn drawn_level(c: Case, top: u16, column: u64, own: u32) -> u16 {
-    let drawn = low16(wide(own / 65536));
+    let drawn = (own / 65536) as u16;
     match c.kind / 16 {
         0 => drawn & top,
         1 => top / 2,
-        4 => low16(c.share),
+        4 => (c.share % 65536) as u16,
         5 => either(column < c.share, 0, 128),
         _ => drawn & (top >> 4),
     }
@@ -152,7 +153,8 @@ fn drawn(share: u64, pair: u32, common: u32, own: u32) -> u32 {
     if pair == 1 {
         return common;
     }
-    if wide(own % 16) < share {
+    let place = (own % 16) as u64;
+    if place < share {
         return common;
     }
     own
@@ -166,7 +168,7 @@ fn level_of(c: Case, top: u16, column: u64, rises: bool, own: u32) -> u16 {
     }
 }
 
-fn sample(c: Case, plane: u64, column: u64, common: u32, own: u32) -> u16 {
+fn drawn_sample(c: Case, plane: u64, column: u64, common: u32, own: u32) -> u16 {
     let pair = pair_of(plane);
     let top = top_of(c.depth);
     let draw = drawn(c.share, pair, common, own);
@@ -175,15 +177,25 @@ fn sample(c: Case, plane: u64, column: u64, common: u32, own: u32) -> u16 {
     if 3 < plane {
         return level;
     }
-    let size = size_of(c, top, column, wide(draw / 256));
+    let size = size_of(c, top, column, draw);
     moved(level, rises, lessened(c.kind, pair, size), top)
+}
+
+// A sample of a plane; one that is too high where the fault asks for it.
+fn sample(c: Case, plane: u64, high: bool, column: u64, common: u32, own: u32) -> u16 {
+    if high {
+        if c.fault == 24 + plane % 8 {
+            return above_top(c.depth);
+        }
+    }
+    drawn_sample(c, plane, column, common, own)
 }
 
 fn column_of(i: usize, columns: usize) -> u64 {
     if columns == 0 {
         return 0;
     }
-    count(i % columns)
+    (i % columns) as u64
 }
 
 // Where the draws of a pair begin; those of 0 are common to all pairs.
@@ -205,38 +217,35 @@ fn fill(values: &mut [u16], at: usize, c: Case, plane: u64, samples: usize, colu
         common = next(common);
         own = next(own);
         let j = at + i;
-        values[j] = sample(c, plane, column_of(i, columns), common, own);
-    }
-}
-
-// A sample that is too high, where the fault asks for one.
-fn raise(values: &mut [u16], at: usize, c: Case, plane: u64, i: usize) {
-    if c.fault == 24 + plane % 8 {
-        if at < values.len() {
-            if i < values.len() - at {
-                values[at + i] = above_top(c.depth);
-            }
-        }
+        values[j] = sample(
+            c,
+            plane,
+            i == samples / 2,
+            column_of(i, columns),
+            common,
+            own,
+        );
     }
 }
 
 // The samples that the shape asks for: the first `lumas` pairs are of luma's size, the others of chroma's.
 fn samples_of(c: Case, lumas: u32, plane: u64) -> usize {
     if pair_of(plane) <= lumas {
-        return size(c.luma);
+        return c.luma;
     }
-    size(c.chroma)
+    c.chroma
 }
 
 fn columns_of(c: Case, lumas: u32, plane: u64) -> usize {
-    let width = size(c.width);
+    let width = c.width;
     if c.kind / 16 == 5 {
         return ROOM;
     }
     if pair_of(plane) <= lumas {
         return width;
     }
-    match c.format {
+    let format = c.format;
+    match format {
         1 | 2 => width / 2 + width % 2,
         _ => width,
     }
@@ -245,7 +254,6 @@ fn columns_of(c: Case, lumas: u32, plane: u64) -> usize {
 fn make(values: &mut [u16], at: usize, c: Case, lumas: u32, plane: u64) {
     let samples = samples_of(c, lumas, plane);
     fill(values, at, c, plane, samples, columns_of(c, lumas, plane));
-    raise(values, at, c, plane, samples / 2);
 }
 
 // A plane by itself.

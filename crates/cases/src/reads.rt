@@ -1,7 +1,5 @@
 // "a reader record of rows, columns and the lent u16 samples": a read of a plane, held at the edges as `PlaneBuffer::get` holds it.
 use crate::case::Case;
-use crate::casts::size;
-use crate::casts::wide16;
 use reader::Sample;
 
 // The sample; 1000 where there is none, and 2000 more than the number of a refusal.
@@ -9,7 +7,7 @@ fn number_of(sample: Sample) -> u64 {
     match sample {
         Sample::Refused(n) => 2000 + n as u64,
         Sample::Nothing => 1000,
-        Sample::Value(v) => wide16(v),
+        Sample::Value(v) => v as u64,
     }
 }
 
@@ -25,12 +23,12 @@ fn place_of(n: u64) -> i32 {
 // The rows, the columns, the row and the column, and how many of these samples are lent.
 pub fn read(c: Case) -> u64 {
     let samples = [10, 11, 12, 20, 21, 22, 30, 31];
-    let count = (c.height % 8) as usize;
+    let count = c.height % 8;
     number_of(reader::sample_of(
         &samples[0..count],
-        size(c.kind),
-        size(c.share),
+        c.kind as usize,
+        c.share as usize,
         place_of(c.seed),
-        place_of(c.width),
+        place_of(c.width as u64),
     ))
 }

@@ -1,44 +1,47 @@
 // The recorded list: what the Rust answered, and the numbers of each refused call, against what the calls answer here.
 use crate::answers::answer;
+use crate::case::Answer;
 use crate::case::Case;
-use crate::case::case_of;
-use crate::casts::count;
-use crate::casts::wide;
-use crate::lines::line_at;
+use crate::lines::byte_at;
+use crate::lines::case_at;
 use crate::say::say;
 use crate::say::say_word;
 use libc::STDOUT_FILENO;
 ghost use Prim.Native.Nat.{_≤_};
 ghost use Rattle.io.specs.Counts.{Counts};
 
+fn is_recorded(a: Answer, c: Case) -> bool {
+    if a.refusal as u64 == c.refusal {
+        return a.value == c.answer;
+    }
+    false
+}
+
 // What a line was answered with.
 fn say_answer(name: &[u8], word: &[u8], line: usize, refusal: u64, value: u64) {
     io::write_all(STDOUT_FILENO, name);
-    say_word(word, count(line));
+    say_word(word, line as u64);
     say_word(b" refusal ", refusal);
     say_word(b" answer ", value);
     io::write_all(STDOUT_FILENO, b"\n");
 }
 
-// 1 where a line's answer is another than the recorded one, which is then written.
+// 1 where a line's answer is another than the recorded one; both are then written.
 fn difference(name: &[u8], call: u64, line: usize, c: Case) -> usize
     ensures { λ r. ⌜ r ≤ 1 ⌝ }
 {
     let a = answer(call, c);
-    let refusal = wide(a.refusal);
-    if refusal == c.refusal {
-        if a.value == c.answer {
-            return 0;
-        }
+    if is_recorded(a, c) {
+        return 0;
     }
-    say_answer(name, b" line ", line, refusal, a.value);
+    say_answer(name, b" line ", line, a.refusal as u64, a.value);
     say_answer(name, b" recorded, line ", line, c.refusal, c.answer);
     1
 }
 
 fn say_counts(name: &[u8], calls: usize, differences: usize) {
-    say(name, count(calls));
-    say_word(b" calls, ", count(differences));
+    say(name, calls as u64);
+    say_word(b" calls, ", differences as u64);
     io::write_all(STDOUT_FILENO, b" differences\n");
 }
 
@@ -47,11 +50,10 @@ fn compare(name: &[u8], call: u64, list: &[u8]) {
     let mut line = 0;
     let mut differences = 0;
     while at < list.len() {
-        let l = line_at(list, at);
-        let numbers = l.numbers;
+        let end = byte_at(list, at, b'\n');
         line += 1;
-        differences += difference(name, call, line, case_of(&numbers));
-        at = l.next;
+        differences += difference(name, call, line, case_at(&list[at..end], 0));
+        at = end + 1;
     }
     say_counts(name, line, differences);
 }

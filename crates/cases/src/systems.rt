@@ -1,7 +1,4 @@
 // The equations of a recorded solver call, made from a kind and a seed; the recorder makes the same ones.
-use crate::casts::count;
-use crate::casts::low32;
-use crate::casts::wide;
 use crate::draws::next;
 use crate::draws::start;
 
@@ -11,7 +8,7 @@ fn float_of(n: u64) -> f64 {
 
 // A whole number from -128 to 127.
 fn drawn(draw: u32) -> f64 {
-    float_of(wide(draw / 256 % 256)) - 128.0
+    float_of((draw / 256 % 256) as u64) - 128.0
 }
 
 // Row r, column c of nearly one row many times.
@@ -19,22 +16,28 @@ fn nearly(r: u64, c: u64, x: f64) -> f64 {
     (float_of(r) + 1.0) * (float_of(c) + 1.0) + x / 8589934592.0
 }
 
-// A large diagonal; pivots about 1e-9; pivots of 1e-9; pivots of 9e-10.
-fn diagonal(kind: u64, x: f64) -> f64 {
+// A large diagonal among numbers; pivots about 1e-9, of 1e-9 and of 9e-10 among zeros.
+fn on_diagonal(kind: u64, diagonal: bool, x: f64) -> f64 {
+    if diagonal {
+        match kind {
+            1 => return 4096.0 + x,
+            8 => return x * 1e-10,
+            9 => return 1e-9,
+            _ => return 9e-10,
+        }
+    }
     match kind {
-        1 => 4096.0 + x,
-        8 => x * 1e-10,
-        9 => 1e-9,
-        _ => 9e-10,
+        1 => x,
+        _ => 0.0,
     }
 }
 
-// Beside the diagonal: the numbers drawn, or 0.
-fn beside(kind: u64, x: f64) -> f64 {
-    if kind == 1 {
-        return x;
+// Half of them 0.
+fn checkered(r: u64, c: u64, x: f64) -> f64 {
+    if r % 2 == c % 2 {
+        return 0.0;
     }
-    0.0
+    x
 }
 
 // Huge rows among small ones.
@@ -61,15 +64,11 @@ fn with_rare(kind: u64, draw: u32, x: f64) -> f64 {
 fn entry(kind: u64, r: u64, c: u64, draw: u32) -> f64 {
     let x = drawn(draw);
     match kind {
-        1 | 8 | 9 | 10 => if r == c {
-            diagonal(kind, x)
-        } else {
-            beside(kind, x)
-        },
+        1 | 8 | 9 | 10 => on_diagonal(kind, r == c, x),
         2 => nearly(r, c, x),
         3 => float_of(c % 5) + 1.0,
         4 | 7 => with_rare(kind, draw, x),
-        5 => if r % 2 == c % 2 { 0.0 } else { x },
+        5 => checkered(r, c, x),
         6 => uneven(r, x),
         _ => x,
     }
@@ -77,10 +76,10 @@ fn entry(kind: u64, r: u64, c: u64, draw: u32) -> f64 {
 
 pub fn row(kind: u64, r: usize, seed: u32) -> [f64; 25] {
     let mut values = [0.0; 25];
-    let mut draw = start(seed, low32(count(r)));
+    let mut draw = start(seed, (r % 0x1_0000_0000) as u32);
     for c in 0..25 {
         draw = next(draw);
-        values[c] = entry(kind, count(r), count(c), draw);
+        values[c] = entry(kind, r as u64, c as u64, draw);
     }
     values
 }

@@ -6,8 +6,6 @@
 // "Order 0 and 26: 8. Pivot 1e-9 passes."
 use crate::answers::answer;
 use crate::case::Case;
-use crate::casts::count;
-use crate::casts::wide;
 use crate::casts::yes;
 use crate::frame_calls::fit_of;
 use crate::frame_calls::profile_of;
@@ -20,10 +18,10 @@ use crate::reads::read;
 fn place_of_one(counts: &[u64]) -> u64 {
     for i in 0..counts.len() {
         if counts[i] == 1 {
-            return count(i);
+            return i as u64;
         }
     }
-    count(counts.len())
+    counts.len() as u64
 }
 
 fn profile_by(c: Case) -> profile::NoiseEstimate {
@@ -66,12 +64,12 @@ fn register_bits(c: Case) -> u64 {
     if a.refusal == 0 {
         return a.value >> 16;
     }
-    wide(a.refusal)
+    a.refusal as u64
 }
 
 // What a call refuses with.
 fn refusal_of(call: u64, c: Case) -> u64 {
-    wide(answer(call, c).refusal)
+    answer(call, c).refusal as u64
 }
 
 // What the row correlation refuses with; 1000 where it does not.

@@ -7,10 +7,10 @@ use Rattle.cases.proofs.planes.planes.Statement.{statement}
 use Rattle.cases.proofs.planes.planes.Tie as tie
 
 abbrev Inv-loop : tie.InvT-loop
-Inv-loop n lumas all₀ k₀ all k = (k ≤ 6) × (49536 ≡ length all)
+Inv-loop c lumas all₀ k₀ all k = (k ≤ 6) × (49536 ≡ length all)
 
 abbrev μ-loop : tie.MeasureT-loop
-μ-loop n lumas all₀ k₀ all k = 6 - k
+μ-loop c lumas all₀ k₀ all k = 6 - k
 
 pub planes-spec : {M : Type 1} → statement M
 planes-spec =
