@@ -4,7 +4,6 @@ use crate::case::Case;
 use crate::case::shape_of;
 use crate::casts::yes;
 use crate::planes::part;
-use crate::planes::planes;
 
 fn gate_answer(g: gate::Gate) -> Answer {
     Answer {
@@ -13,7 +12,7 @@ fn gate_answer(g: gate::Gate) -> Answer {
     }
 }
 
-fn luma_gate(c: Case, all: &[u16]) -> Answer {
+pub fn film_grain_probe(c: Case, all: &[u16]) -> Answer {
     gate_answer(gate::film_grain_probe(
         shape_of(c),
         part(all, c, 2, 1),
@@ -23,7 +22,7 @@ fn luma_gate(c: Case, all: &[u16]) -> Answer {
     ))
 }
 
-fn chroma_gate(c: Case, all: &[u16]) -> Answer {
+pub fn chroma_noise_gate(c: Case, all: &[u16]) -> Answer {
     gate_answer(gate::chroma_noise_gate(
         shape_of(c),
         part(all, c, 0, 1),
@@ -32,14 +31,4 @@ fn chroma_gate(c: Case, all: &[u16]) -> Answer {
         part(all, c, 0, 5),
         c.argument,
     ))
-}
-
-pub fn film_grain_probe(c: Case) -> Answer {
-    let all = planes(c, 2);
-    luma_gate(c, &all)
-}
-
-pub fn chroma_noise_gate(c: Case) -> Answer {
-    let all = planes(c, 0);
-    chroma_gate(c, &all)
 }

@@ -237,17 +237,16 @@ fn samples_of(c: Case, lumas: u32, plane: u64) -> usize {
 }
 
 fn columns_of(c: Case, lumas: u32, plane: u64) -> usize {
-    let width = c.width;
     if c.kind / 16 == 5 {
         return ROOM;
     }
     if pair_of(plane) <= lumas {
-        return width;
+        return c.width;
     }
     let format = c.format;
     match format {
-        1 | 2 => width / 2 + width % 2,
-        _ => width,
+        1 | 2 => c.width - c.width / 2,
+        _ => c.width,
     }
 }
 

@@ -8,7 +8,6 @@ use crate::say::say;
 use crate::say::say_word;
 use libc::STDOUT_FILENO;
 ghost use Prim.Native.Nat.{_≤_};
-ghost use Rattle.io.specs.Counts.{Counts};
 
 fn is_recorded(a: Answer, c: Case) -> bool {
     if a.refusal as u64 == c.refusal {
@@ -58,23 +57,15 @@ fn compare(name: &[u8], call: u64, list: &[u8]) {
     say_counts(name, line, differences);
 }
 
-// A file's bytes, and how many there are; none where it can't be read.
-pub fn load(name: &[u8], text: &mut [u8]) -> usize
-    ensures { λ r. ⌜ Counts r (now (text .exit)) ⌝ }
-{
+// A list is a file of the call's name.
+pub fn replay(name: &[u8], call: u64) {
     let file = os::open_read(name);
     if file < 0 {
         os::fail(name);
-        return 0;
+        return;
     }
-    let n = io::read_full(file, text);
-    libc::close(file);
-    n
-}
-
-// A list is a file of the call's name.
-pub fn replay(name: &[u8], call: u64) {
     let mut list = io::large_buffer();
-    let n = load(name, &mut list);
+    let n = io::read_full(file, &mut list);
+    libc::close(file);
     compare(name, call, &list[..n]);
 }

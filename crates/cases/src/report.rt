@@ -1,11 +1,12 @@
-// The report: data/report has a line for each of its lines, with the name, a colon, and the numbers of what is asked.
+// The report: the standard input has a line for each of its lines, with the name, a colon, and the numbers of what is asked.
 use crate::case::Case;
 use crate::lines::byte_at;
 use crate::lines::case_at;
-use crate::replay::load;
 use crate::replay::replay;
 use crate::say::say;
 use crate::worked::worked;
+use libc::STDIN_FILENO;
+use libc::STDOUT_FILENO;
 
 // A call, whose list is replayed; or a worked case.
 fn figure(name: &[u8], c: Case) {
@@ -14,7 +15,7 @@ fn figure(name: &[u8], c: Case) {
         return;
     }
     say(name, worked(c));
-    io::write_all(libc::STDOUT_FILENO, b"\n");
+    io::write_all(STDOUT_FILENO, b"\n");
 }
 
 fn entry(line: &[u8]) {
@@ -33,6 +34,6 @@ fn write(text: &[u8]) {
 
 pub fn run() {
     let mut text = io::large_buffer();
-    let n = load(b"report", &mut text);
+    let n = io::read_full(STDIN_FILENO, &mut text);
     write(&text[..n]);
 }
