@@ -1,35 +1,18 @@
-// Casts that keep the low bits; floats as their bits, and back.
+// Values as 64 bits, and back.
 
-pub fn low8(x: u64) -> u8 {
-    (x % 0x100) as u8
-}
-
-pub fn low16(x: u64) -> u16 {
-    (x % 0x1_0000) as u16
-}
-
-pub fn low32(x: u64) -> u32 {
-    (x % 0x1_0000_0000) as u32
-}
-
-pub fn size(x: u64) -> usize {
-    x as usize
-}
-
-pub fn wide(x: u32) -> u64 {
-    x as u64
+pub fn yes(x: bool) -> u64 {
+    if x {
+        return 1;
+    }
+    0
 }
 
 pub fn wide16(x: u16) -> u64 {
     x as u64
 }
 
-pub fn count(x: usize) -> u64 {
-    x as u64
-}
-
-pub fn yes(x: bool) -> u64 {
-    if x { 1 } else { 0 }
+pub fn low32(x: u64) -> u32 {
+    (x % 0x1_0000_0000) as u32
 }
 
 // A coefficient, as the bits of the float that it is.

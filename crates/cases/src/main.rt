@@ -1,29 +1,23 @@
-// Runs the scope's cases that are not proved about the definitions, and writes a line for each: its name and the figure that came out.
-// Then asks every call of the recorded list in data/, and writes for each kind of call how many there were and how many answered otherwise.
-mod bins;
+// Writes the report whose lines the standard input names: the scope's cases that are not proved about the definitions, each with the
+// figure that came out; then each recorded list in data/, with how many calls it has and how many answered otherwise.
+mod answers;
 mod case;
 mod casts;
 mod digests;
 mod draws;
-mod fits;
 mod frame_calls;
 mod gate_calls;
-mod gates;
-mod least;
 mod lines;
 mod number_calls;
 mod plane_calls;
 mod planes;
-mod questions;
+mod reads;
 mod replay;
+mod report;
 mod say;
 mod systems;
+mod worked;
 
 fn main() {
-    bins::run();
-    least::run();
-    gates::run();
-    fits::run();
-    questions::run();
-    replay::run();
+    report::run();
 }

@@ -1,13 +1,9 @@
 // The calls on numbers.
 use crate::case::Answer;
-use crate::casts::count;
+use crate::case::Case;
 use crate::casts::float_of;
-use crate::casts::low16;
 use crate::casts::low32;
 use crate::casts::signed;
-use crate::casts::size;
-use crate::casts::wide;
-use crate::casts::wide16;
 use crate::casts::yes;
 use crate::digests::coefficients_into;
 use crate::digests::floats_into;
@@ -16,63 +12,68 @@ use crate::systems::matrix;
 use crate::systems::row;
 use random::Draw;
 
+pub fn solved(c: Case) -> solve::Solved {
+    let seed = low32(c.seed);
+    solve::solve_normal(matrix(c.kind, seed), row(0, 25, seed), c.share as usize)
+}
+
 // Whether there is a solution, its order and its values as a digest.
-pub fn solve_normal(numbers: &[u64; 13]) -> Answer {
-    let a = matrix(numbers[2], low32(numbers[4]));
-    let b = row(0, 25, low32(numbers[4]));
-    let s = solve::solve_normal(a, b, size(numbers[3]));
+pub fn solve_normal(c: Case) -> Answer {
+    let s = solved(c);
     let solution = s.solution;
     let values = solution.values;
-    let head = mixed(mixed(0, yes(s.found)), count(solution.order));
+    let head = mixed(mixed(0, yes(s.found)), solution.order as u64);
     Answer {
         refusal: s.refusal,
         value: floats_into(head, &values),
     }
 }
 
-fn offsets_into(digest: u64, offsets: &[i32; 24]) -> u64 {
-    coefficients_into(digest, offsets)
-}
-
 // The count, the rows and the columns as a digest.
-pub fn ar_positions(numbers: &[u64; 13]) -> Answer {
-    let p = positions::ar_positions(size(numbers[2]));
+fn positions_answer(p: positions::Positions) -> Answer {
     let rows = p.rows;
     let columns = p.columns;
-    let head = mixed(0, count(p.count));
     Answer {
         refusal: p.refusal,
-        value: offsets_into(offsets_into(head, &rows), &columns),
+        value: coefficients_into(coefficients_into(mixed(0, p.count as u64), &rows), &columns),
     }
 }
 
-pub fn quant_ar(numbers: &[u64; 13]) -> Answer {
+pub fn ar_positions(c: Case) -> Answer {
+    positions_answer(positions::ar_positions(c.kind as usize))
+}
+
+pub fn quant_ar(c: Case) -> Answer {
     Answer {
         refusal: 0,
-        value: signed(float::quant_ar(float_of(numbers[2]))),
+        value: signed(float::quant_ar(float_of(c.kind))),
     }
 }
 
-pub fn grain_seed_for(numbers: &[u64; 13]) -> Answer {
+pub fn grain_seed_for(c: Case) -> Answer {
     Answer {
         refusal: 0,
-        value: wide16(random::grain_seed_for(low32(numbers[2]))),
+        value: random::grain_seed_for(low32(c.kind)) as u64,
     }
 }
 
 // The bits drawn, above the 16 bits of the state afterwards.
-pub fn random_register(numbers: &[u64; 13]) -> Answer {
-    let s = random::draw_from(low16(numbers[2]), low32(numbers[3]));
-    let after = s.register;
-    let draw = s.draw;
+fn draw_answer(draw: Draw, state: u64) -> Answer {
     match draw {
         Draw::Refused(n) => Answer {
             refusal: n,
-            value: wide16(after.state),
+            value: state,
         },
         Draw::Value(v) => Answer {
             refusal: 0,
-            value: (wide(v) << 16) | wide16(after.state),
+            value: ((v as u64) << 16) | state,
         },
     }
+}
+
+pub fn random_register(c: Case) -> Answer {
+    let s = random::draw_from((c.kind % 0x1_0000) as u16, low32(c.share));
+    let after = s.register;
+    let draw = s.draw;
+    draw_answer(draw, after.state as u64)
 }

@@ -1,15 +1,11 @@
-// The calls on a lone plane.
+// What the calls on a lone plane answer.
 use crate::case::Answer;
 use crate::case::Case;
-use crate::case::case_of;
-use crate::case::lent;
-use crate::case::make_luma;
 use crate::casts::bits;
-use crate::casts::low8;
-use crate::casts::size;
 use crate::digests::samples_into;
-use crate::planes::blank;
-use crate::planes::front;
+use crate::planes::lent;
+use crate::planes::part;
+use crate::planes::plane;
 
 fn denoise_into(c: Case, src: &[u16], dst: &mut [u16]) -> Answer {
     let refusal = denoise::denoise_plane(src, dst, c.width, c.height);
@@ -20,38 +16,29 @@ fn denoise_into(c: Case, src: &[u16], dst: &mut [u16]) -> Answer {
 }
 
 // The destination as a digest, after a refusal too.
-pub fn denoise_plane(numbers: &[u64; 13]) -> Answer {
-    let c = case_of(numbers);
-    let mut src = blank();
-    let mut dst = blank();
-    make_luma(&mut src, &mut dst, c, 1);
-    let n = lent(c.fault, c.luma, 4);
-    let source = front(&src, lent(c.fault, c.luma, 1));
-    denoise_into(c, source, &mut dst[0..n])
+pub fn denoise_plane(c: Case, all: &[u16]) -> Answer {
+    let mut dst = plane(c, 1, 4);
+    let count = lent(c, 1, 4);
+    denoise_into(c, part(all, c, 1, 1), &mut dst[0..count])
 }
 
-fn sigma_of(c: Case, src: &[u16], den: &[u16]) -> Answer {
-    let s = profile::plane_sigma16(src, den, c.width, c.height, low8(c.depth));
+pub fn plane_sigma16(c: Case, all: &[u16]) -> Answer {
+    let s = profile::plane_sigma16(
+        part(all, c, 1, 1),
+        part(all, c, 1, 4),
+        c.width,
+        c.height,
+        c.depth,
+    );
     Answer {
         refusal: s.refusal,
         value: s.sigma16,
     }
 }
 
-pub fn plane_sigma16(numbers: &[u64; 13]) -> Answer {
-    let c = case_of(numbers);
-    let mut src = blank();
-    let mut den = blank();
-    make_luma(&mut src, &mut den, c, 1);
-    sigma_of(
-        c,
-        front(&src, lent(c.fault, c.luma, 1)),
-        front(&den, lent(c.fault, c.luma, 4)),
-    )
-}
-
-fn rho_of(c: Case, src: &[u16], den: &[u16]) -> Answer {
-    match gate::lag_h_rho(src, den, c.width, c.height, size(c.argument), low8(c.depth)) {
+// The correlation as its bits.
+fn rho_answer(rho: gate::Rho) -> Answer {
+    match rho {
         gate::Rho::Refused(n) => Answer {
             refusal: n,
             value: 0,
@@ -63,15 +50,13 @@ fn rho_of(c: Case, src: &[u16], den: &[u16]) -> Answer {
     }
 }
 
-// The correlation as its bits.
-pub fn lag_h_rho(numbers: &[u64; 13]) -> Answer {
-    let c = case_of(numbers);
-    let mut src = blank();
-    let mut den = blank();
-    make_luma(&mut src, &mut den, c, 1);
-    rho_of(
-        c,
-        front(&src, lent(c.fault, c.luma, 1)),
-        front(&den, lent(c.fault, c.luma, 4)),
-    )
+pub fn lag_h_rho(c: Case, all: &[u16]) -> Answer {
+    rho_answer(gate::lag_h_rho(
+        part(all, c, 1, 1),
+        part(all, c, 1, 4),
+        c.width,
+        c.height,
+        c.argument as usize,
+        c.depth,
+    ))
 }

@@ -1,41 +1,43 @@
-// The planes of a recorded call, made from its numbers; the recorder makes the same ones.
-use crate::casts::low16;
-use crate::casts::wide;
+// The planes of a recorded call, made from its numbers; the recorder makes the same ones. Planes 1 to 3 are sources, 4 to 6 their
+// denoised copies. All six stand in one array, each with room of its own.
+use crate::case::Case;
+use crate::casts::low32;
 use crate::draws::next;
 use crate::draws::start;
+ghost use Prim.Native.Nat.{_≤_};
 ghost use mathlib.Core.Path.{_≡_};
 ghost use lib.ListN.{length};
 
-// Room for the largest recorded plane, and a sample more.
+// Room for the largest recorded plane, and a sample more; and for all six.
 pub const ROOM: usize = 8256;
 
-pub fn blank() -> [u16; ROOM]
-    ensures { λ r. ⌜ 8256 ≡ length r ⌝ }
+pub const ALL: usize = 49536;
+
+// A pair is a source and its copy: 1 to 3, as the source.
+fn pair_of(plane: u64) -> u32 {
+    match plane {
+        1 | 4 => 1,
+        2 | 5 => 2,
+        _ => 3,
+    }
+}
+
+// Where a plane begins.
+fn start_of(plane: u64) -> usize
+    ensures { λ r. ⌜ r ≤ 41280 ⌝ }
 {
-    [0u16; ROOM]
-}
-
-// A source sample and its denoised sample.
-pub struct Samples {
-    pub src: u16,
-    pub den: u16,
-}
-
-// How the samples of a pair of planes are made.
-pub struct Recipe {
-    // Noise: 0 small, 1 any, 2 none, 3 the extremes, 4 ones, 5 ones of either sign, 6 to 8 stripes, 9 rare ones, 10 one extreme, 11
-    // stripes but for rare places, 12 equal rows, 13 a ramp. And 16 times the level: 0 any, 1 the middle, 2 low, 3 low with less
-    // noise in the first pair.
-    pub kind: u64,
-    // Of 16 noises, how many are those of the first pair.
-    pub share: u64,
-    pub first: bool,
-    // The highest sample.
-    pub top: u16,
+    match plane {
+        1 => 0,
+        2 => 8256,
+        3 => 16512,
+        4 => 24768,
+        5 => 33024,
+        _ => 41280,
+    }
 }
 
 // The highest sample of a depth; all u16 where a call takes no depth, recorded as 16.
-pub fn top_of(depth: u64) -> u16 {
+fn top_of(depth: u8) -> u16 {
     match depth {
         16 => 65535,
         12 => 4095,
@@ -45,7 +47,7 @@ pub fn top_of(depth: u64) -> u16 {
 }
 
 // The first sample that is too high.
-fn above_top(depth: u64) -> u16 {
+fn above_top(depth: u8) -> u16 {
     match depth {
         12 => 4096,
         10 => 1024,
@@ -53,154 +55,255 @@ fn above_top(depth: u64) -> u16 {
     }
 }
 
-// Up by a size, down by a size, held to 0 and top.
-fn up(level: u16, size: u16, top: u16) -> u16 {
-    if top < level {
+// A level, up by a size or down by it, held to 0 and top.
+fn moved(level: u16, rises: bool, size: u16, top: u16) -> u16 {
+    if rises {
+        if top <= level {
+            return level;
+        }
+        if size <= top - level {
+            return level + size;
+        }
         return top;
     }
-    if size <= top - level {
-        return level + size;
-    }
-    top
-}
-
-fn down(level: u16, size: u16) -> u16 {
     if size <= level {
         return level - size;
     }
     0
 }
 
+// A kind is the noise: 0 small, 1 any, 2 none, 3 the extremes, 4 ones, 5 ones of either sign, 6 to 8 stripes, 9 rare ones, 10 one
+// extreme, 11 stripes but for rare places, 12 equal rows, 13 a ramp. And 16 times the level: 0 any, 1 the middle, 2 low, 3 low with
+// less noise in the first pair. Of worked cases alone: noise 14, ones whose signs are the bits of the share, in the second pair of the
+// seed, and 15, ones in the first columns, as many as the share; level 4, the share, and 5, 0 in those columns
+// and 128 in the others, of a single row.
+
+// Whether the sign of a column is positive.
+fn sign_of(c: Case, pair: u32, column: u64) -> bool {
+    if pair == 1 {
+        return (c.share >> (column % 64)) % 2 == 1;
+    }
+    (c.seed >> (column % 64)) % 2 == 1
+}
+
 // Whether a noise is positive.
-fn is_up(kind: u64, column: u64, draw: u32) -> bool {
-    match kind {
-        4 | 10 | 13 => true,
+fn is_up(c: Case, pair: u32, column: u64, draw: u32) -> bool {
+    match c.kind % 16 {
+        4 | 10 | 13 | 15 => true,
         6 | 11 => column % 2 == 0,
         7 => column / 8 % 2 == 0,
         8 => column / 16 % 2 == 0,
         12 => 0x5a3c_96e1 / (1 + column % 31) % 2 == 0,
+        14 => sign_of(c, pair, column),
         _ => draw < 0x8000_0000,
     }
 }
 
+// One of two sizes.
+fn either(first: bool, a: u16, b: u16) -> u16 {
+    if first {
+        return a;
+    }
+    b
+}
+
 // The size of a noise.
-fn size_of(kind: u64, top: u16, column: u64, draw: u32) -> u16 {
+fn size_of(c: Case, top: u16, column: u64, draw: u32) -> u16 {
+    let drawn = (draw / 256 % 65536) as u16;
     let rare = draw / 256 % 64 == 0;
-    match kind {
-        0 => low16(wide(draw / 256)) & (top >> 5),
-        1 => low16(wide(draw / 256)) & top,
+    match c.kind % 16 {
+        0 => drawn & (top >> 5),
+        1 => drawn & top,
         3 | 10 => top,
-        4 | 5 => 1,
+        4 | 5 | 14 => 1,
         6 | 7 | 8 => 2,
-        9 => if rare { 1 } else { 0 },
-        11 => if rare { 1 } else { 2 },
+        9 => either(rare, 1, 0),
+        11 => either(rare, 1, 2),
         12 => 5,
-        13 => low16(column % 8),
+        13 => (column % 8) as u16,
+        15 => either(column < c.share, 1, 0),
         _ => 0,
     }
 }
 
-// The denoised sample.
-fn level_of(kind: u64, top: u16, is_up: bool, own: u32) -> u16 {
-    let noise = kind % 16;
-    if noise == 3 || noise == 10 {
-        if is_up {
-            return 0;
-        }
-        return top;
-    }
-    match kind / 16 {
-        0 => low16(wide(own / 65536)) & top,
-        1 => top / 2,
-        _ => low16(wide(own / 65536)) & (top >> 4),
-    }
-}
-
-fn drawn(r: Recipe, common: u32, own: u32) -> u32 {
-    if r.first {
-        return common;
-    }
-    if wide(own % 16) < r.share {
-        return common;
-    }
-    own
-}
-
 // The first pair's noise may be an eighth of the others'.
-fn lessened(r: Recipe, size: u16) -> u16 {
-    if r.first {
-        if r.kind / 16 == 3 {
+fn lessened(kind: u64, pair: u32, size: u16) -> u16 {
+    if pair == 1 {
+        if kind / 16 == 3 {
             return size >> 3;
         }
     }
     size
 }
 
-fn pair(r: Recipe, column: u64, common: u32, own: u32) -> Samples {
-    let draw = drawn(r, common, own);
-    let noise = r.kind % 16;
-    let rises = is_up(noise, column, draw);
-    let size = lessened(r, size_of(noise, r.top, column, draw));
-    let den = level_of(r.kind, r.top, rises, own);
-    if rises {
-        return Samples {
-            src: up(den, size, r.top),
-            den,
-        };
-    }
-    Samples {
-        src: down(den, size),
-        den,
+// The denoised sample of a level.
+fn drawn_level(c: Case, top: u16, column: u64, own: u32) -> u16 {
+    let drawn = (own / 65536) as u16;
+    match c.kind / 16 {
+        0 => drawn & top,
+        1 => top / 2,
+        4 => (c.share % 65536) as u16,
+        5 => either(column < c.share, 0, 128),
+        _ => drawn & (top >> 4),
     }
 }
 
-fn column_of(i: usize, width: usize) -> u64 {
-    if width == 0 {
+// Of 16 noises, as many as the share are those of the first pair.
+fn drawn(share: u64, pair: u32, common: u32, own: u32) -> u32 {
+    if pair == 1 {
+        return common;
+    }
+    let place = (own % 16) as u64;
+    if place < share {
+        return common;
+    }
+    own
+}
+
+// The denoised sample.
+fn level_of(c: Case, top: u16, column: u64, rises: bool, own: u32) -> u16 {
+    match c.kind % 16 {
+        3 | 10 => either(rises, 0, top),
+        _ => drawn_level(c, top, column, own),
+    }
+}
+
+fn drawn_sample(c: Case, plane: u64, column: u64, common: u32, own: u32) -> u16 {
+    let pair = pair_of(plane);
+    let top = top_of(c.depth);
+    let draw = drawn(c.share, pair, common, own);
+    let rises = is_up(c, pair, column, draw);
+    let level = level_of(c, top, column, rises, own);
+    if 3 < plane {
+        return level;
+    }
+    let size = size_of(c, top, column, draw);
+    moved(level, rises, lessened(c.kind, pair, size), top)
+}
+
+// A sample of a plane; one that is too high where the fault asks for it.
+fn sample(c: Case, plane: u64, high: bool, column: u64, common: u32, own: u32) -> u16 {
+    if high {
+        if c.fault == 24 + plane % 8 {
+            return above_top(c.depth);
+        }
+    }
+    drawn_sample(c, plane, column, common, own)
+}
+
+fn column_of(i: usize, columns: usize) -> u64 {
+    if columns == 0 {
         return 0;
     }
-    (i % width) as u64
+    (i % columns) as u64
 }
 
-// The first samples of both planes, one more than `samples`.
-pub fn fill(
-    src: &mut [u16],
-    den: &mut [u16],
-    r: Recipe,
-    samples: usize,
-    width: usize,
-    seed: u32,
-    stream: u32,
-) {
-    if src.len() <= samples {
+// Where the draws of a pair begin; those of 0 are common to all pairs.
+fn first_draw(c: Case, pair: u32) -> u32 {
+    start(low32(c.seed), pair)
+}
+
+// The first samples of a plane that begins at a place, one more than `samples`.
+fn fill(values: &mut [u16], at: usize, c: Case, plane: u64, samples: usize, columns: usize) {
+    if values.len() <= at {
         return;
     }
-    if den.len() <= samples {
+    if values.len() - at <= samples {
         return;
     }
-    let mut common = start(seed, 0);
-    let mut own = start(seed, stream);
-    let mut i = 0;
-    while i <= samples {
+    let mut common = first_draw(c, 0);
+    let mut own = first_draw(c, pair_of(plane));
+    for i in 0..samples + 1 {
         common = next(common);
         own = next(own);
-        let p = pair(r, column_of(i, width), common, own);
-        src[i] = p.src;
-        den[i] = p.den;
-        i += 1;
+        let j = at + i;
+        values[j] = sample(
+            c,
+            plane,
+            i == samples / 2,
+            column_of(i, columns),
+            common,
+            own,
+        );
     }
 }
 
-// A sample that is too high at a place, where the plane has it.
-pub fn raise(plane: &mut [u16], at: usize, depth: u64) {
-    if at < plane.len() {
-        plane[at] = above_top(depth);
+// The samples that the shape asks for: the first `lumas` pairs are of luma's size, the others of chroma's.
+fn samples_of(c: Case, lumas: u32, plane: u64) -> usize {
+    if pair_of(plane) <= lumas {
+        return c.luma;
+    }
+    c.chroma
+}
+
+fn columns_of(c: Case, lumas: u32, plane: u64) -> usize {
+    if c.kind / 16 == 5 {
+        return ROOM;
+    }
+    if pair_of(plane) <= lumas {
+        return c.width;
+    }
+    let format = c.format;
+    match format {
+        1 | 2 => c.width - c.width / 2,
+        _ => c.width,
     }
 }
 
-// The first `count` samples.
-pub fn front(plane: &[u16], count: usize) -> &[u16] {
-    if plane.len() < count {
-        return plane;
+fn make(values: &mut [u16], at: usize, c: Case, lumas: u32, plane: u64) {
+    let samples = samples_of(c, lumas, plane);
+    fill(values, at, c, plane, samples, columns_of(c, lumas, plane));
+}
+
+// A plane by itself.
+pub fn plane(c: Case, lumas: u32, plane: u64) -> [u16; ROOM]
+    ensures { λ r. ⌜ 8256 ≡ length r ⌝ }
+{
+    let mut values = [0; ROOM];
+    make(&mut values, 0, c, lumas, plane);
+    values
+}
+
+// All six planes.
+pub fn planes(c: Case, lumas: u32) -> [u16; ALL] {
+    let mut all = [0; ALL];
+    for k in 0..6 {
+        make(&mut all, start_of(k + 1), c, lumas, k + 1);
     }
-    &plane[0..count]
+    all
+}
+
+// How many samples of a plane are lent, of those that the shape asks for.
+fn lent_of(fault: u64, plane: u64, samples: usize) -> usize
+    ensures { λ r. ⌜ r ≤ 8256 ⌝ }
+{
+    if ROOM <= samples {
+        return ROOM;
+    }
+    if fault == 8 + plane % 8 {
+        if 0 < samples {
+            return samples - 1;
+        }
+    }
+    if fault == 16 + plane % 8 {
+        return samples + 1;
+    }
+    samples
+}
+
+// How many samples of a plane are lent.
+pub fn lent(c: Case, lumas: u32, plane: u64) -> usize
+    ensures { λ r. ⌜ r ≤ 8256 ⌝ }
+{
+    lent_of(c.fault, plane, samples_of(c, lumas, plane))
+}
+
+// The samples of a plane that are lent, of all.
+pub fn part<'a>(all: &'a [u16], c: Case, lumas: u32, plane: u64) -> &'a [u16] {
+    let at = start_of(plane);
+    let end = at + lent(c, lumas, plane);
+    if end <= all.len() {
+        return &all[at..end];
+    }
+    all
 }

@@ -1,9 +1,12 @@
-// A line of the report.
+// A part of a line of the report.
 use libc::STDOUT_FILENO;
+
+pub fn say_word(word: &[u8], value: u64) {
+    io::write_all(STDOUT_FILENO, word);
+    io::print_decimal(STDOUT_FILENO, value);
+}
 
 pub fn say(name: &[u8], value: u64) {
     io::write_all(STDOUT_FILENO, name);
-    io::write_all(STDOUT_FILENO, b": ");
-    io::print_decimal(STDOUT_FILENO, value);
-    io::write_all(STDOUT_FILENO, b"\n");
+    say_word(b": ", value);
 }

@@ -9,6 +9,9 @@ use borrow.Author.Tests.{le-ltb}
 use Rattle.cases.proofs.casts.float_of.Statement.{statement}
 use Rattle.cases.proofs.casts.float_of.Tie as tie
 
+returns : tie.Need-returns
+returns c = search needs
+
 float-from-bits-result : tie.Need-float-from-bits-result
 float-from-bits-result c =
     subst (λ (b : Bool). T (not b)) (sym (nanBits-above binary64 (c .before .args .n) ∙ le-ltb _ _ (c .if1 .left))) tt
@@ -17,4 +20,4 @@ returns-2 : tie.Need-returns-2
 returns-2 c = search needs
 
 pub float-of-spec : {M : Type 1} → statement M
-float-of-spec = tie.close (tie.spec (λ c. search needs) float-from-bits-result returns-2)
+float-of-spec = tie.close (tie.spec returns float-from-bits-result returns-2)

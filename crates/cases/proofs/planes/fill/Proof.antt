@@ -7,13 +7,10 @@ use Rattle.cases.proofs.planes.fill.Statement.{statement}
 use Rattle.cases.proofs.planes.fill.Tie as tie
 
 abbrev Inv-loop : tie.InvT-loop
-Inv-loop src₀ den₀ r samples width seed stream common₀ own₀ i₀ src den common own i = (i ≤ samples + 1) × ((length src ≡ length src₀) × (length den ≡ length den₀))
+Inv-loop values₀ at c plane samples columns common₀ own₀ i₀ i-end values common own i = (i ≤ i-end) × ((at + i-end ≤ length values₀) × (length values ≡ length values₀))
 
 abbrev μ-loop : tie.MeasureT-loop
-μ-loop src₀ den₀ r samples width seed stream common₀ own₀ i₀ src den common own i = samples + 1 - i
-
-returns-3 : tie.Need-returns-3 Inv-loop μ-loop
-returns-3 c = search needs
+μ-loop values₀ at c plane samples columns common₀ own₀ i₀ i-end values common own i = i-end - i
 
 pub fill-spec : {M : Type 1} → statement M
 fill-spec =
@@ -23,20 +20,21 @@ fill-spec =
     μ-loop
     (λ c. search needs)
     (λ c. search needs)
+    (λ c. search needs)
+    (λ c κs. search needs)
+    (λ c κs. search needs)
+    (λ c κs. search needs)
+    (λ c. search needs)
+    (λ c. search needs)
     (λ c κs. search needs)
     (λ c κs. search needs)
     (λ c. search needs)
     (λ c κs. search needs)
     (λ c κs. search needs)
-    (λ c κs. search needs)
-    (λ c κs. search needs)
     (λ c. search needs)
     (λ c. search needs)
     (λ c. search needs)
     (λ c. search needs)
     (λ c. search needs)
     (λ c. search needs)
-    (λ c. search needs)
-    (λ c. search needs)
-    (λ c. search needs)
-    returns-3)
+    (λ c. search needs))

@@ -1,4 +1,4 @@
--- `cases::replay::compare`: it is safe and ends. Assumes nothing.
+-- `cases::replay::compare`: it is safe and ends: a line more for each turn, at a place further on. Assumes nothing.
 use Prim.Native.Nat.{_≤_, _-_}
 use lib.ListN.{length}
 use borrow.Author.Needs.{needs}
@@ -11,9 +11,6 @@ Inv-loop name call list at₀ line₀ differences₀ at line differences = (line
 abbrev μ-loop : tie.MeasureT-loop
 μ-loop name call list at₀ line₀ differences₀ at line differences = length list - at
 
-returns : tie.Need-returns Inv-loop μ-loop
-returns c = search needs
-
 pub compare-spec : {M : Type 1} → statement M
 compare-spec =
     tie.close
@@ -23,9 +20,14 @@ compare-spec =
     (λ c. search needs)
     (λ c κs. search needs)
     (λ c. search needs)
-    (λ c κs. search needs)
     (λ c. search needs)
     (λ c. search needs)
     (λ c. search needs)
     (λ c κs. search needs)
-    returns)
+    (λ c κs. search needs)
+    (λ c. search needs)
+    (λ c. search needs)
+    (λ c. search needs)
+    (λ c. search needs)
+    (λ c κs. search needs)
+    (λ c. search needs))

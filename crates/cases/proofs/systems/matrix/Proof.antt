@@ -10,9 +10,6 @@ Inv-loop kind seed rows₀ r₀ rows r = r ≤ 25
 abbrev μ-loop : tie.MeasureT-loop
 μ-loop kind seed rows₀ r₀ rows r = 25 - r
 
-returns : tie.Need-returns Inv-loop μ-loop
-returns c = search needs
-
 pub matrix-spec : {M : Type 1} → statement M
 matrix-spec =
     tie.close
@@ -26,4 +23,4 @@ matrix-spec =
     (λ c. search needs)
     (λ c. search needs)
     (λ c. search needs)
-    returns)
+    (λ c. search needs))

@@ -10,21 +10,15 @@ Inv-loop kind r seed values₀ draw₀ c₀ values draw c = c ≤ 25
 abbrev μ-loop : tie.MeasureT-loop
 μ-loop kind r seed values₀ draw₀ c₀ values draw c = 25 - c
 
-returns : tie.Need-returns Inv-loop μ-loop
-returns c = search needs
-
 pub row-spec : {M : Type 1} → statement M
 row-spec =
     tie.close
     (tie.spec
     Inv-loop
     μ-loop
-    (λ c κs. search needs)
-    (λ c κs. search needs)
-    (λ c κs. search needs)
     (λ c. search needs)
     (λ c κs. search needs)
-    (λ c κs. search needs)
+    (λ c. search needs)
     (λ c κs. search needs)
     (λ c κs. search needs)
     (λ c. search needs)
@@ -32,4 +26,4 @@ row-spec =
     (λ c. search needs)
     (λ c. search needs)
     (λ c. search needs)
-    returns)
+    (λ c. search needs))

@@ -1,18 +1,15 @@
--- `cases::bins::place_of_one`: it ends. Assumes nothing.
+-- `cases::worked::place_of_one`: it is safe and ends. Assumes nothing.
 use Prim.Native.Nat.{_≤_, _-_}
 use lib.ListN.{length}
 use borrow.Author.Needs.{needs}
-use Rattle.cases.proofs.bins.place_of_one.Statement.{statement}
-use Rattle.cases.proofs.bins.place_of_one.Tie as tie
+use Rattle.cases.proofs.worked.place_of_one.Statement.{statement}
+use Rattle.cases.proofs.worked.place_of_one.Tie as tie
 
 abbrev Inv-loop : tie.InvT-loop
-Inv-loop counts i₀ i = i ≤ length counts
+Inv-loop counts i₀ i-end i = (i ≤ i-end) × (i-end ≤ length counts)
 
 abbrev μ-loop : tie.MeasureT-loop
-μ-loop counts i₀ i = length counts - i
-
-returns-2 : tie.Need-returns-2 Inv-loop μ-loop
-returns-2 c = search needs
+μ-loop counts i₀ i-end i = i-end - i
 
 pub place-of-one-spec : {M : Type 1} → statement M
 place-of-one-spec =
@@ -27,4 +24,4 @@ place-of-one-spec =
     (λ c. search needs)
     (λ c. search needs)
     (λ c. search needs)
-    returns-2)
+    (λ c. search needs))

@@ -1,0 +1,39 @@
+// The report: the standard input has a line for each of its lines, with the name, a colon, and the numbers of what is asked.
+use crate::case::Case;
+use crate::lines::byte_at;
+use crate::lines::case_at;
+use crate::replay::replay;
+use crate::say::say;
+use crate::worked::worked;
+use libc::STDIN_FILENO;
+use libc::STDOUT_FILENO;
+
+// A call, whose list is replayed; or a worked case.
+fn figure(name: &[u8], c: Case) {
+    if c.answer < 20 {
+        replay(name, c.answer);
+        return;
+    }
+    say(name, worked(c));
+    io::write_all(STDOUT_FILENO, b"\n");
+}
+
+fn entry(line: &[u8]) {
+    let colon = byte_at(line, 0, b':');
+    figure(&line[0..colon], case_at(line, colon + 1));
+}
+
+fn write(text: &[u8]) {
+    let mut at = 0;
+    while at < text.len() {
+        let end = byte_at(text, at, b'\n');
+        entry(&text[at..end]);
+        at = end + 1;
+    }
+}
+
+pub fn run() {
+    let mut text = io::large_buffer();
+    let n = io::read_full(STDIN_FILENO, &mut text);
+    write(&text[..n]);
+}
