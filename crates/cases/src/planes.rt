@@ -203,8 +203,32 @@ fn first_draw(c: Case, pair: u32) -> u32 {
     start(low32(c.seed), pair)
 }
 
-// The first samples of a plane that begins at a place, one more than `samples`.
-fn fill(values: &mut [u16], at: usize, c: Case, plane: u64, samples: usize, columns: usize) {
+// The samples that the shape asks for: the first `lumas` pairs are of luma's size, the others of chroma's.
+fn samples_of(c: Case, lumas: u32, plane: u64) -> usize {
+    if pair_of(plane) <= lumas {
+        return c.luma;
+    }
+    c.chroma
+}
+
+fn columns_of(c: Case, lumas: u32, plane: u64) -> usize {
+    if c.kind / 16 == 5 {
+        return ROOM;
+    }
+    if pair_of(plane) <= lumas {
+        return c.width;
+    }
+    let format = c.format;
+    match format {
+        1 | 2 => c.width - c.width / 2,
+        _ => c.width,
+    }
+}
+
+// The samples of a plane that begins at a place, and one more.
+fn fill(values: &mut [u16], at: usize, c: Case, lumas: u32, plane: u64) {
+    let samples = samples_of(c, lumas, plane);
+    let columns = columns_of(c, lumas, plane);
     if values.len() <= at {
         return;
     }
@@ -228,39 +252,12 @@ fn fill(values: &mut [u16], at: usize, c: Case, plane: u64, samples: usize, colu
     }
 }
 
-// The samples that the shape asks for: the first `lumas` pairs are of luma's size, the others of chroma's.
-fn samples_of(c: Case, lumas: u32, plane: u64) -> usize {
-    if pair_of(plane) <= lumas {
-        return c.luma;
-    }
-    c.chroma
-}
-
-fn columns_of(c: Case, lumas: u32, plane: u64) -> usize {
-    if c.kind / 16 == 5 {
-        return ROOM;
-    }
-    if pair_of(plane) <= lumas {
-        return c.width;
-    }
-    let format = c.format;
-    match format {
-        1 | 2 => c.width - c.width / 2,
-        _ => c.width,
-    }
-}
-
-fn make(values: &mut [u16], at: usize, c: Case, lumas: u32, plane: u64) {
-    let samples = samples_of(c, lumas, plane);
-    fill(values, at, c, plane, samples, columns_of(c, lumas, plane));
-}
-
 // A plane by itself.
 pub fn plane(c: Case, lumas: u32, plane: u64) -> [u16; ROOM]
     ensures { λ r. ⌜ 8256 ≡ length r ⌝ }
 {
     let mut values = [0; ROOM];
-    make(&mut values, 0, c, lumas, plane);
+    fill(&mut values, 0, c, lumas, plane);
     values
 }
 
@@ -268,7 +265,7 @@ pub fn plane(c: Case, lumas: u32, plane: u64) -> [u16; ROOM]
 pub fn planes(c: Case, lumas: u32) -> [u16; ALL] {
     let mut all = [0; ALL];
     for k in 0..6 {
-        make(&mut all, start_of(k + 1), c, lumas, k + 1);
+        fill(&mut all, start_of(k + 1), c, lumas, k + 1);
     }
     all
 }
