@@ -8,9 +8,10 @@ ghost use Prim.Native.Nat.{_≤_};
 ghost use mathlib.Core.Path.{_≡_};
 ghost use lib.ListN.{length};
 
-// Room for the largest recorded plane, and a sample more; and for all six.
+// Room for the largest recorded plane, and a sample more.
 pub const ROOM: usize = 8256;
 
+// Room for all six.
 pub const ALL: usize = 49536;
 
 // A pair is a source and its copy: 1 to 3, as the source.
@@ -75,8 +76,8 @@ fn moved(level: u16, rises: bool, size: u16, top: u16) -> u16 {
 // A kind is the noise: 0 small, 1 any, 2 none, 3 the extremes, 4 ones, 5 ones of either sign, 6 to 8 stripes, 9 rare ones, 10 one
 // extreme, 11 stripes but for rare places, 12 equal rows, 13 a ramp. And 16 times the level: 0 any, 1 the middle, 2 low, 3 low with
 // less noise in the first pair. Of worked cases alone: noise 14, ones whose signs are the bits of the share, in the second pair of the
-// seed, and 15, ones in the first columns, as many as the share; level 4, the share, and 5, 0 in those columns
-// and 128 in the others, of a single row.
+// seed, and 15, ones in the first columns, as many as the share; level 4, the share, and 5, 0 in those columns and 128 in the others,
+// of a plane that is a single row.
 
 // Whether the sign of a column is positive.
 fn sign_of(c: Case, pair: u32, column: u64) -> bool {
@@ -168,6 +169,7 @@ fn level_of(c: Case, top: u16, column: u64, rises: bool, own: u32) -> u16 {
     }
 }
 
+// The sample of a plane at a column: the level, or the level with its noise.
 fn drawn_sample(c: Case, plane: u64, column: u64, common: u32, own: u32) -> u16 {
     let pair = pair_of(plane);
     let top = top_of(c.depth);
@@ -191,6 +193,7 @@ fn sample(c: Case, plane: u64, high: bool, column: u64, common: u32, own: u32) -
     drawn_sample(c, plane, column, common, own)
 }
 
+// The column of the sample at a place.
 fn column_of(i: usize, columns: usize) -> u64 {
     if columns == 0 {
         return 0;
@@ -211,6 +214,7 @@ fn samples_of(c: Case, lumas: u32, plane: u64) -> usize {
     c.chroma
 }
 
+// The columns of a plane.
 fn columns_of(c: Case, lumas: u32, plane: u64) -> usize {
     if c.kind / 16 == 5 {
         return ROOM;

@@ -24,6 +24,7 @@ fn place_of_one(counts: &[u64]) -> u64 {
     counts.len() as u64
 }
 
+// The profile of a frame that the numbers make.
 fn profile_by(c: Case) -> profile::NoiseEstimate {
     let all = planes(c, 1);
     profile_of(c, &all)
@@ -69,6 +70,7 @@ fn of_answer(figure: u64, a: Answer) -> u64 {
     }
 }
 
+// A refusal, or the value where there is none.
 fn or_else(refusal: u64, value: u64) -> u64 {
     if refusal == 0 {
         return value;
@@ -76,7 +78,7 @@ fn or_else(refusal: u64, value: u64) -> u64 {
     refusal
 }
 
-// Another figure.
+// A figure of a case: the bin of its luma sample; of its Cb sample; sigma16 of bin 0; whether there is a fit; whether there is a solution; a read.
 fn of_case(figure: u64, c: Case) -> u64 {
     match figure {
         0 => luma_bin(c),
@@ -88,7 +90,7 @@ fn of_case(figure: u64, c: Case) -> u64 {
     }
 }
 
-// 20 to 99: a figure of a call's answer, each with the calls counted from it on; from 100 on another figure.
+// What the line of a worked case asks: 20, 40, 60 or 80 and a call, a figure of what it answers; from 100 on, a figure of the case.
 pub fn worked(c: Case) -> u64 {
     let what = c.answer;
     if what < 100 {
