@@ -7,7 +7,7 @@ use crate::number_calls;
 use crate::plane_calls;
 use crate::planes::planes;
 
-// The first `lumas` pairs of planes are of luma's size.
+// A call on planes, of which the first `lumas` pairs are of luma's size.
 fn on_planes(call: u64, c: Case, lumas: u32) -> Answer {
     let all = planes(c, lumas);
     match call {
@@ -23,6 +23,7 @@ fn on_planes(call: u64, c: Case, lumas: u32) -> Answer {
     }
 }
 
+// The answer of any call.
 pub fn answer(call: u64, c: Case) -> Answer {
     match call {
         3 => on_planes(call, c, 2),

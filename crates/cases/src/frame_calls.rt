@@ -35,6 +35,7 @@ fn denoise_into(
     }
 }
 
+// The frame of the first three planes, denoised into the copies.
 pub fn denoise_frame(c: Case, all: &[u16]) -> Answer {
     let mut y_den = plane(c, 1, 4);
     let mut cb_den = plane(c, 1, 5);
@@ -51,6 +52,7 @@ pub fn denoise_frame(c: Case, all: &[u16]) -> Answer {
     )
 }
 
+// The profile of a frame.
 pub fn profile_of(c: Case, all: &[u16]) -> profile::NoiseEstimate {
     profile::noise_estimate(
         shape_of(c),
@@ -74,6 +76,7 @@ fn chroma_into(digest: u64, chroma: profile::ChromaProfile) -> u64 {
     numbers_into(mixed(digest, chroma.sigma16), &bins)
 }
 
+// Every sigma16 of a profile as a digest.
 pub fn noise_estimate(c: Case, all: &[u16]) -> Answer {
     let e = profile_of(c, all);
     let luma = e.luma;
@@ -93,6 +96,7 @@ fn correlation_answer(r: chroma_correlation::ChromaCorr) -> Answer {
     }
 }
 
+// The chroma correlation of a frame.
 pub fn fit_chroma_corr(c: Case, all: &[u16]) -> Answer {
     correlation_answer(chroma_correlation::fit_chroma_corr(
         shape_of(c),
@@ -105,6 +109,7 @@ pub fn fit_chroma_corr(c: Case, all: &[u16]) -> Answer {
     ))
 }
 
+// The fit of a frame.
 pub fn fit_of(c: Case, all: &[u16]) -> fit::Fit {
     fit::fit_ar_lag(
         shape_of(c),

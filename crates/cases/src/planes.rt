@@ -8,9 +8,10 @@ ghost use Prim.Native.Nat.{_≤_};
 ghost use mathlib.Core.Path.{_≡_};
 ghost use lib.ListN.{length};
 
-// Room for the largest recorded plane, and a sample more; and for all six.
+// Room for the largest recorded plane, and a sample more.
 pub const ROOM: usize = 8256;
 
+// Room for all six.
 pub const ALL: usize = 49536;
 
 // A pair is a source and its copy: 1 to 3, as the source.
@@ -75,8 +76,8 @@ fn moved(level: u16, rises: bool, size: u16, top: u16) -> u16 {
 // A kind is the noise: 0 small, 1 any, 2 none, 3 the extremes, 4 ones, 5 ones of either sign, 6 to 8 stripes, 9 rare ones, 10 one
 // extreme, 11 stripes but for rare places, 12 equal rows, 13 a ramp. And 16 times the level: 0 any, 1 the middle, 2 low, 3 low with
 // less noise in the first pair. Of worked cases alone: noise 14, ones whose signs are the bits of the share, in the second pair of the
-// seed, and 15, ones in the first columns, as many as the share; level 4, the share, and 5, 0 in those columns
-// and 128 in the others, of a single row.
+// seed, and 15, ones in the first columns, as many as the share; level 4, the share, and 5, 0 in those columns and 128 in the others,
+// of a plane that is a single row.
 
 // Whether the sign of a column is positive.
 fn sign_of(c: Case, pair: u32, column: u64) -> bool {
@@ -168,6 +169,7 @@ fn level_of(c: Case, top: u16, column: u64, rises: bool, own: u32) -> u16 {
     }
 }
 
+// The sample of a plane at a column: the level, or the level with its noise.
 fn drawn_sample(c: Case, plane: u64, column: u64, common: u32, own: u32) -> u16 {
     let pair = pair_of(plane);
     let top = top_of(c.depth);
@@ -191,6 +193,7 @@ fn sample(c: Case, plane: u64, high: bool, column: u64, common: u32, own: u32) -
     drawn_sample(c, plane, column, common, own)
 }
 
+// The column of the sample at a place.
 fn column_of(i: usize, columns: usize) -> u64 {
     if columns == 0 {
         return 0;
@@ -203,8 +206,33 @@ fn first_draw(c: Case, pair: u32) -> u32 {
     start(low32(c.seed), pair)
 }
 
-// The first samples of a plane that begins at a place, one more than `samples`.
-fn fill(values: &mut [u16], at: usize, c: Case, plane: u64, samples: usize, columns: usize) {
+// The samples that the shape asks for: the first `lumas` pairs are of luma's size, the others of chroma's.
+fn samples_of(c: Case, lumas: u32, plane: u64) -> usize {
+    if pair_of(plane) <= lumas {
+        return c.luma;
+    }
+    c.chroma
+}
+
+// The columns of a plane.
+fn columns_of(c: Case, lumas: u32, plane: u64) -> usize {
+    if c.kind / 16 == 5 {
+        return ROOM;
+    }
+    if pair_of(plane) <= lumas {
+        return c.width;
+    }
+    let format = c.format;
+    match format {
+        1 | 2 => c.width - c.width / 2,
+        _ => c.width,
+    }
+}
+
+// The samples of a plane that begins at a place, and one more.
+fn fill(values: &mut [u16], at: usize, c: Case, lumas: u32, plane: u64) {
+    let samples = samples_of(c, lumas, plane);
+    let columns = columns_of(c, lumas, plane);
     if values.len() <= at {
         return;
     }
@@ -228,39 +256,12 @@ fn fill(values: &mut [u16], at: usize, c: Case, plane: u64, samples: usize, colu
     }
 }
 
-// The samples that the shape asks for: the first `lumas` pairs are of luma's size, the others of chroma's.
-fn samples_of(c: Case, lumas: u32, plane: u64) -> usize {
-    if pair_of(plane) <= lumas {
-        return c.luma;
-    }
-    c.chroma
-}
-
-fn columns_of(c: Case, lumas: u32, plane: u64) -> usize {
-    if c.kind / 16 == 5 {
-        return ROOM;
-    }
-    if pair_of(plane) <= lumas {
-        return c.width;
-    }
-    let format = c.format;
-    match format {
-        1 | 2 => c.width - c.width / 2,
-        _ => c.width,
-    }
-}
-
-fn make(values: &mut [u16], at: usize, c: Case, lumas: u32, plane: u64) {
-    let samples = samples_of(c, lumas, plane);
-    fill(values, at, c, plane, samples, columns_of(c, lumas, plane));
-}
-
 // A plane by itself.
 pub fn plane(c: Case, lumas: u32, plane: u64) -> [u16; ROOM]
     ensures { λ r. ⌜ 8256 ≡ length r ⌝ }
 {
     let mut values = [0; ROOM];
-    make(&mut values, 0, c, lumas, plane);
+    fill(&mut values, 0, c, lumas, plane);
     values
 }
 
@@ -268,7 +269,7 @@ pub fn plane(c: Case, lumas: u32, plane: u64) -> [u16; ROOM]
 pub fn planes(c: Case, lumas: u32) -> [u16; ALL] {
     let mut all = [0; ALL];
     for k in 0..6 {
-        make(&mut all, start_of(k + 1), c, lumas, k + 1);
+        fill(&mut all, start_of(k + 1), c, lumas, k + 1);
     }
     all
 }

@@ -9,6 +9,7 @@ use crate::say::say_word;
 use libc::STDOUT_FILENO;
 ghost use Prim.Native.Nat.{_≤_};
 
+// Whether an answer is the recorded one.
 fn is_recorded(a: Answer, c: Case) -> bool {
     if a.refusal as u64 == c.refusal {
         return a.value == c.answer;
@@ -38,12 +39,14 @@ fn difference(name: &[u8], call: u64, line: usize, c: Case) -> usize
     1
 }
 
+// How many calls a list has, and how many answered otherwise.
 fn say_counts(name: &[u8], calls: usize, differences: usize) {
     say(name, calls as u64);
     say_word(b" calls, ", differences as u64);
     io::write_all(STDOUT_FILENO, b" differences\n");
 }
 
+// Every call of a list.
 fn compare(name: &[u8], call: u64, list: &[u8]) {
     let mut at = 0;
     let mut line = 0;

@@ -1,4 +1,5 @@
-// The report: the standard input has a line for each of its lines, with the name, a colon, and the numbers of what is asked.
+// The report: the standard input has a line for each of its lines, with the name, a colon, and the numbers of what is asked: a call,
+// counted from 0 to 13, whose recorded list is replayed; or what worked.rt counts, and the numbers of the case.
 use crate::case::Case;
 use crate::lines::byte_at;
 use crate::lines::case_at;
@@ -8,7 +9,7 @@ use crate::worked::worked;
 use libc::STDIN_FILENO;
 use libc::STDOUT_FILENO;
 
-// A call, whose list is replayed; or a worked case.
+// A line of the report: of a list, or of a worked case.
 fn figure(name: &[u8], c: Case) {
     if c.answer < 20 {
         replay(name, c.answer);
@@ -18,11 +19,13 @@ fn figure(name: &[u8], c: Case) {
     io::write_all(STDOUT_FILENO, b"\n");
 }
 
+// A line of the input.
 fn entry(line: &[u8]) {
     let colon = byte_at(line, 0, b':');
     figure(&line[0..colon], case_at(line, colon + 1));
 }
 
+// Each line of the input.
 fn write(text: &[u8]) {
     let mut at = 0;
     while at < text.len() {

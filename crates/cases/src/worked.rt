@@ -5,11 +5,11 @@
 // "Width 2 at lag 1: no fit. Lag 4: 7." "Sizes 4,096 and 4,097; sample 255 and 256 at 8 bits; register bits 16 and 17."
 // "Order 0 and 26: 8. Pivot 1e-9 passes."
 use crate::answers::answer;
+use crate::case::Answer;
 use crate::case::Case;
 use crate::casts::yes;
 use crate::frame_calls::fit_of;
 use crate::frame_calls::profile_of;
-use crate::number_calls::random_register;
 use crate::number_calls::solved;
 use crate::planes::planes;
 use crate::reads::read;
@@ -24,6 +24,7 @@ fn place_of_one(counts: &[u64]) -> u64 {
     counts.len() as u64
 }
 
+// The profile of a frame that the numbers make.
 fn profile_by(c: Case) -> profile::NoiseEstimate {
     let all = planes(c, 1);
     profile_of(c, &all)
@@ -58,49 +59,42 @@ fn fit_found(c: Case) -> u64 {
     yes(fit_of(c, &all).found)
 }
 
-// What the register draws, or the number that it refuses with.
-fn register_bits(c: Case) -> u64 {
-    let a = random_register(c);
-    if a.refusal == 0 {
-        return a.value >> 16;
+// A figure of what a call answered: its refusal; its answer; its refusal, 1000 where it is none; the bits that the register drew, or its refusal.
+fn of_answer(figure: u64, a: Answer) -> u64 {
+    let refusal = a.refusal as u64;
+    match figure {
+        1 => refusal,
+        2 => a.value,
+        3 => or_else(refusal, 1000),
+        _ => or_else(refusal, a.value >> 16),
     }
-    a.refusal as u64
 }
 
-// What a call refuses with.
-fn refusal_of(call: u64, c: Case) -> u64 {
-    answer(call, c).refusal as u64
-}
-
-// What the row correlation refuses with; 1000 where it does not.
-fn rho_refusal(c: Case) -> u64 {
-    let refusal = refusal_of(2, c);
+// A refusal, or the value where there is none.
+fn or_else(refusal: u64, value: u64) -> u64 {
     if refusal == 0 {
-        return 1000;
+        return value;
     }
     refusal
 }
 
-fn figure_of(c: Case) -> u64 {
-    let figure = c.answer;
+// A figure of a case: the bin of its luma sample; of its Cb sample; sigma16 of bin 0; whether there is a fit; whether there is a solution; a read.
+fn of_case(figure: u64, c: Case) -> u64 {
     match figure {
-        60 => luma_bin(c),
-        61 => cb_bin(c),
-        62 => first_bin(c),
-        63 => fit_found(c),
-        64 => yes(solved(c).found),
-        65 => register_bits(c),
-        66 => rho_refusal(c),
+        0 => luma_bin(c),
+        1 => cb_bin(c),
+        2 => first_bin(c),
+        3 => fit_found(c),
+        4 => yes(solved(c).found),
         _ => read(c),
     }
 }
 
-// 20 and a call: its refusal; 40 and a call: its answer; from 60 on other figures.
+// What the line of a worked case asks: 20, 40, 60 or 80 and a call, a figure of what it answers; from 100 on, a figure of the case.
 pub fn worked(c: Case) -> u64 {
-    let call = c.answer % 20;
-    match c.answer / 20 {
-        1 => refusal_of(call, c),
-        2 => answer(call, c).value,
-        _ => figure_of(c),
+    let what = c.answer;
+    if what < 100 {
+        return of_answer(what / 20, answer(what % 20, c));
     }
+    of_case(what - 100, c)
 }

@@ -7,10 +7,10 @@ use Rattle.cases.proofs.planes.fill.Statement.{statement}
 use Rattle.cases.proofs.planes.fill.Tie as tie
 
 abbrev Inv-loop : tie.InvT-loop
-Inv-loop values₀ at c plane samples columns common₀ own₀ i₀ i-end values common own i = (i ≤ i-end) × ((at + i-end ≤ length values₀) × (length values ≡ length values₀))
+Inv-loop values₀ at c lumas plane samples columns common₀ own₀ i₀ i-end values common own i = (i ≤ i-end) × ((at + i-end ≤ length values₀) × (length values ≡ length values₀))
 
 abbrev μ-loop : tie.MeasureT-loop
-μ-loop values₀ at c plane samples columns common₀ own₀ i₀ i-end values common own i = i-end - i
+μ-loop values₀ at c lumas plane samples columns common₀ own₀ i₀ i-end values common own i = i-end - i
 
 pub fill-spec : {M : Type 1} → statement M
 fill-spec =
@@ -18,6 +18,8 @@ fill-spec =
     (tie.spec
     Inv-loop
     μ-loop
+    (λ c κs. search needs)
+    (λ c κs. search needs)
     (λ c. search needs)
     (λ c. search needs)
     (λ c. search needs)
