@@ -37,7 +37,7 @@ plane-call w h src dst e =
 
 pub record PairCall (w h depth : ℕ) (a b : List ℕ) : Type 0 where
   pub size : Sides w h
-  pub deep : Depth depth
+  pub depth-known : Depth depth
   pub first : LowPlane (w * h) depth a
   pub second : LowPlane (w * h) depth b
 
@@ -51,7 +51,7 @@ pair-call w h depth a b e =
     let d = is-depth depth (p .1 .0) in
     record {
       size = is-small w h (p .0);
-      deep = d;
+      depth-known = d;
       first = is-plane (w * h) depth a (d .most) (l .0) (f .1 .0);
       second = is-plane (w * h) depth b (d .most) (l .1 .0) (f .1 .1 .0);
     }

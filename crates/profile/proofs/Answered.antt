@@ -56,7 +56,7 @@ module _ (w h depth : ℕ) (source denoised : List ℕ) {n : ℕ} (e : n ≡ pai
       ap sigmaOf (P .plane-is ∙ profile-plane 0 (depth - 8) a b 1) ∙ answer-granted (sigmaOf (planeSigma16 (depth - 8) a b)) noSigma e z
 
   pub sigma-seen : n ≡ 0 → SeenAt depth (whole w h) source denoised
-  sigma-seen z = let c = pair-call w h depth source denoised (sym e ∙ z) in seen-at w h (c .size) (c .deep) (c .first) (c .second)
+  sigma-seen z = let c = pair-call w h depth source denoised (sym e ∙ z) in seen-at w h (c .size) (c .depth-known) (c .first) (c .second)
 
 -- ---- noise_estimate
 module _ (s : Shape) (y cb cr y-denoised cb-denoised cr-denoised : List ℕ) {n : ℕ} (e : n ≡ frameRefusal s y cb cr y-denoised cb-denoised cr-denoised) where

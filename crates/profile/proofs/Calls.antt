@@ -46,7 +46,7 @@ sigma-is w h depth a b e =
 pub sigma-worded : (w h depth : ℕ) (a b : List ℕ) → pairRefusal w h depth a b ≡ 0 → PlaneInWords (depth - 8) a b (sigmaAnswer w h depth a b .sigma16)
 sigma-worded w h depth a b e =
     let c = pair-call w h depth a b e in
-    rw (sigma-is w h depth a b e) (plane-in-words (low (c .size) (c .deep) (c .first) (c .second)))
+    rw (sigma-is w h depth a b e) (plane-in-words (low (c .size) (c .depth-known) (c .first) (c .second)))
 
 module _ (s : Shape) (y cb cr y-denoised cb-denoised cr-denoised : List ℕ) where
   abbrev number : ℕ

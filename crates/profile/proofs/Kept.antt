@@ -15,12 +15,12 @@ use Rattle.noise.specs.Lines.{at}
 use Rattle.laws.specs.Sums.{sumN}
 use Rattle.profile.specs.Shifted.{squareOf}
 use Rattle.profile.specs.Bins.{inBin}
-use Rattle.profile.specs.Parts.{noiseLimit, squareLimit, ShiftedLine, Binned, Between, lineCount, lineSquares}
+use Rattle.profile.specs.Parts.{shiftedLimit, squareLimit, ShiftedLine, Binned, Between, lineCount, lineSquares}
 use Rattle.laws.proofs.SumsN.{sum-ext, sum-ones}
 use Rattle.profile.proofs.Squares.{square-le, line-small, line-sum}
 use Rattle.profile.proofs.Binning.{bin-le, count-le, none-in, all-in}
 
-keep-small : (t : Bool) (d : ℤ) → natAbs d ≤ noiseLimit → natAbs (cond t d (pos 0)) ≤ noiseLimit
+keep-small : (t : Bool) (d : ℤ) → natAbs d ≤ shiftedLimit → natAbs (cond t d (pos 0)) ≤ shiftedLimit
 keep-small true d h = h
 keep-small false d h = zero-le
 
@@ -32,7 +32,7 @@ module _ {line : List ℤ} {bins : List ℕ} (j : ℕ) (B : Binned line bins) wh
   abbrev kept : ℕ → ℤ
   kept i = cond (eqb (getD bins i 0) j) (at line i) (pos 0)
 
-  small : (i : ℕ) → i < length bins → natAbs (at line i) ≤ noiseLimit
+  small : (i : ℕ) → i < length bins → natAbs (at line i) ≤ shiftedLimit
   small i l = B .shifted-line .small i (lt-of-lt-of-le l (le-of-eq (sym (B .same))))
 
   -- as `kept_line` fills them, n of them

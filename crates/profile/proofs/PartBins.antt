@@ -13,7 +13,7 @@ use Rattle.laws.proofs.Table.{length-tabulate, getD-tabulate}
 use Rattle.noise.proofs.LineSums.{entry}
 use Rattle.profile.specs.Shifted.{shiftedNoise, squareOf, square}
 use Rattle.profile.specs.Bins.{binAt}
-use Rattle.profile.specs.Parts.{partLimit, noiseLimit, squareLimit, LinesFrom, LinesOf, Binned, lineCount, lineSquares}
+use Rattle.profile.specs.Parts.{partLimit, shiftedLimit, squareLimit, LinesFrom, LinesOf, Binned, lineCount, lineSquares}
 use Rattle.profile.specs.Runs.{Run, runCount, runSquares, Added, RunAdded, increased}
 use Rattle.profile.proofs.Range.{shifted-range, range-small, bin-shift}
 use Rattle.profile.proofs.Binning.{bin-ext}
@@ -37,7 +37,7 @@ module _ {depth start stride n : ℕ} {source denoised : List ℕ} (R : Run dept
         coarse-small = omega (arith, R .most-depth);
       }
 
-  run-noise : (i : ℕ) → i < n → natAbs (shiftedNoise (depth - 8) source denoised (start + i * stride)) ≤ noiseLimit
+  run-noise : (i : ℕ) → i < n → natAbs (shiftedNoise (depth - 8) source denoised (start + i * stride)) ≤ shiftedLimit
   run-noise i l =
       let k = R .places .inside i l in
       range-small _

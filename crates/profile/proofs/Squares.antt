@@ -15,15 +15,15 @@ use Rattle.laws.proofs.Whole.{abs-mul-le}
 use Rattle.noise.specs.Lines.{at, product, Lines}
 use Rattle.noise.proofs.LineSums.{entry}
 use Rattle.profile.specs.Shifted.{squareOf}
-use Rattle.profile.specs.Parts.{partLimit, noiseLimit, squareLimit, ShiftedLine}
+use Rattle.profile.specs.Parts.{partLimit, shiftedLimit, squareLimit, ShiftedLine}
 use Rattle.laws.proofs.SumsN.{sum-ext, sum-pos, sum-bound}
 
 pub square-pos : (d : ℤ) → d *ℤ d ≡ pos (squareOf d)
 square-pos (pos n) = refl
 square-pos (negsuc n) = refl
 
-pub square-le : (d : ℤ) → natAbs d ≤ noiseLimit → squareOf d ≤ squareLimit
-square-le d h = abs-mul-le d d noiseLimit noiseLimit h h
+pub square-le : (d : ℤ) → natAbs d ≤ shiftedLimit → squareOf d ≤ squareLimit
+square-le d h = abs-mul-le d d shiftedLimit shiftedLimit h h
 
 pub square-lines : {line : List ℤ} → ShiftedLine line → Lines 32 line line
 square-lines {line} S =
@@ -47,7 +47,7 @@ module _ (n : ℕ) (f : ℕ → ℤ) {line : List ℤ} (e : line ≡ tabulate n 
   size : length line ≡ n
   size = rw e (length-tabulate n f)
 
-  pub line-small : n ≤ partLimit → ((i : ℕ) → i < n → natAbs (f i) ≤ noiseLimit) → ShiftedLine line
+  pub line-small : n ≤ partLimit → ((i : ℕ) → i < n → natAbs (f i) ≤ shiftedLimit) → ShiftedLine line
   line-small h small =
       record {
         few = le-trans (le-of-eq size) h;

@@ -15,11 +15,11 @@ abbrev pub partLimit : ℕ
 partLimit = 256
 
 -- the most that a shifted noise is in size, and its square
-abbrev pub noiseLimit : ℕ
-noiseLimit = 256
+abbrev pub shiftedLimit : ℕ
+shiftedLimit = 256
 
 abbrev pub squareLimit : ℕ
-squareLimit = noiseLimit * noiseLimit
+squareLimit = shiftedLimit * shiftedLimit
 
 -- ---- the lines of a part
 
@@ -40,7 +40,7 @@ pub record LinesOf (source denoised : List ℕ) (start stride shift coarse n : �
 -- a part's line of shifted noise, and with the bin of each place
 pub record ShiftedLine (line : List ℤ) : Type 0 where
   pub few : length line ≤ partLimit
-  pub small : AtMost noiseLimit line
+  pub small : AtMost shiftedLimit line
 
 pub record Binned (line : List ℤ) (bins : List ℕ) : Type 0 where
   pub same : length line ≡ length bins
