@@ -1,6 +1,6 @@
 -- Each f64 sum of a fit is its exact sum, turned into an f64 once: a case of demand 3. Assumes nothing.
 use mathlib.Core.Path.{_≡_, refl, sym, ap, _∙_}
-use Prim.Native.Nat.{ℕ, _+_, _-_, _/_, _%_, _≤_, _<_}
+use Prim.Native.Nat.{ℕ, _+_, _-_, _/_, _%_, _<_}
 use native.Mathlib.Omega.{arith}
 use lib.IntN.{pos, _-ℤ_, _*ℤ_}
 use lib.Ieee.{binary64, ofInt}

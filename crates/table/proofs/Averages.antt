@@ -3,7 +3,7 @@ use mathlib.Core.Path.{refl}
 use lib.Ieee.{add, sub, div, ofInt, ofBits}
 use Rattle.table.specs.Cases.{Right}
 use Rattle.laws.specs.Loop.{loop, turns}
-use Rattle.laws.specs.Sums.{total, sumTo}
+use Rattle.laws.specs.Sums.{total}
 use Rattle.noise.specs.Average.{averageF, quarters, visited}
 use Rattle.table.specs.Averages.{averageAt, cases}
 
