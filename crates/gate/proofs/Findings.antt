@@ -30,11 +30,6 @@ module _ (p q : Pair) (e₁ : Float) (second : e₁ ≡ dotF q q) where
   unfolding temporal
   second-is some b c x t = rw (← second, some, ← c, ← x, t)
 
--- sigma16, from the sum of squares and the number of samples
-pub sigma-is : (v : View) (shift : ℕ) (s d : List ℕ) {squares count sigma16 : ℕ} → squares ≡ planeSquares shift (viewed v s) (viewed v d) → count ≡ v .width * v .height → sigma16 ≡ sigma16Of squares count → sigma16 ≡ planeSigma16 shift (viewed v s) (viewed v d)
-unfolding planeSigma16
-sigma-is v shift s d e n t = t ∙ (λ i. sigma16Of (e i) ((n ∙ sym (viewed-length v s)) i))
-
 -- the luma gate, n the sigma16
 module _ (sigma16 : ℕ) (p q : Pair) (n : ℕ) (is : n ≡ sigma16) where
   pub luma-low : n < 16 → LowSigma ≡ lumaFinding sigma16 p q

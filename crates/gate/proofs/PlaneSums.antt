@@ -61,19 +61,3 @@ module _ {v : View} {s d : List ℕ} (S : Seen v s d) where
   energy-is =
       let p = seen v s d in
       sym (dot-window p p refl refl) ∙ dot-sum p p refl refl planeLimit sampleLimit (frame-held (own p) (own p)) limited limited
-
--- the squares of the shifted noise, row by row, are those of the plane
-pub squares-are : (v : View) (s d : List ℕ) (shift : ℕ) {z : ℤ} → z ≡ sumOver (v .height) (v .width) (λ r c. squared shift (noiseOf (seen v s d) r c)) → z ≡ pos (planeSquares shift (viewed v s) (viewed v d))
-squares-are v s d shift e =
-    let x = viewed v s in
-    let y = viewed v d in
-    e
-    ∙ sum-rows (λ i. squared shift (noise x y i)) (v .width) (v .height)
-    ∙ ap (sumTo (λ i. squared shift (noise x y i))) (mul-comm (v .height) (v .width) ∙ sym (viewed-length v s))
-    ∙ sum-ext (λ i. squared shift (noise x y i)) (λ i. pos (square shift x y i)) (length x) (λ i l. square-pos (shiftedNoise shift x y i))
-    ∙ sum-pos (square shift x y) (length x)
-    ∙ ap pos (sym (plane-sum shift x y))
-
--- ---- as the code reads a number that an i64 holds: a sum of squares fits a u64
-pub held-fits : {z : ℤ} {n : ℕ} → mag z < 2 ^ 63 → z ≡ pos n → Fits w64 n
-held-fits h e = record { fits = lt-of-lt-of-le (subst (λ (z : ℤ). mag z < 2 ^ 63) e h) (lit≤ tt) }

@@ -14,12 +14,11 @@ use Rattle.frame.proofs.Facts.{Sides, chroma-sides, Depth, LowPlane}
 use Rattle.frame.proofs.Refusal.{refused, granted}
 use Rattle.noise.proofs.Seen.{seen-all}
 use Rattle.noise.proofs.Accepted.{plane-of}
-use Rattle.profile.specs.Steps.{planeSigma16, profile}
+use Rattle.profile.specs.Steps.{planeSigma16}
 use Rattle.profile.specs.Answers.{sigmaOf, noSigma, sigmaAnswer, lumaProfile, chromaProfile, estimateOf, noEstimate, estimateAnswer}
-use Rattle.profile.specs.Runs.{SeenAt, Profiled}
+use Rattle.profile.specs.Runs.{SeenAt}
 use Rattle.profile.specs.declared.LumaProfile.{LumaProfile}
 use Rattle.profile.specs.declared.ChromaProfile.{ChromaProfile}
-use Rattle.profile.proofs.AddUp.{profile-plane}
 
 -- an answer of the form `accepted n value (none n)`
 module _ {A : Type 0} (value : A) (none : ℕ → A) {n m : ℕ} (e : n ≡ m) where
@@ -46,17 +45,9 @@ module _ (w h depth : ℕ) (source denoised : List ℕ) {n : ℕ} (e : n ≡ pai
   unfolding sigmaAnswer
   sigma-refused z = answer-refused (sigmaOf (planeSigma16 (depth - 8) (viewed (whole w h) source) (viewed (whole w h) denoised))) noSigma e z
 
-  -- sigma16 of a profile with one bin
-  pub sigma-accepted : n ≡ 0 → {v : ℕ} {sigma count squares : List ℕ}
-      → Profiled (profile 0 1 (depth - 8) (viewed (whole w h) source) (viewed (whole w h) denoised)) v sigma count squares → sigmaOf v ≡ sigmaAnswer w h depth source denoised
+  pub sigma-accepted : n ≡ 0 → {v : ℕ} → v ≡ planeSigma16 (depth - 8) (viewed (whole w h) source) (viewed (whole w h) denoised) → sigmaOf v ≡ sigmaAnswer w h depth source denoised
   unfolding sigmaAnswer
-  sigma-accepted z P =
-      let a = viewed (whole w h) source in
-      let b = viewed (whole w h) denoised in
-      ap sigmaOf (P .plane-is ∙ profile-plane 0 (depth - 8) a b 1) ∙ answer-granted (sigmaOf (planeSigma16 (depth - 8) a b)) noSigma e z
-
-  pub sigma-seen : n ≡ 0 → SeenAt depth (whole w h) source denoised
-  sigma-seen z = let c = pair-call w h depth source denoised (sym e ∙ z) in seen-at w h (c .size) (c .depth-known) (c .first) (c .second)
+  sigma-accepted z is = ap sigmaOf is ∙ answer-granted (sigmaOf (planeSigma16 (depth - 8) (viewed (whole w h) source) (viewed (whole w h) denoised))) noSigma e z
 
 -- ---- noise_estimate
 module _ (s : Shape) (y cb cr y-denoised cb-denoised cr-denoised : List ℕ) {n : ℕ} (e : n ≡ frameRefusal s y cb cr y-denoised cb-denoised cr-denoised) where

@@ -7,6 +7,7 @@ pub mod PartBins
 pub mod Adding
 pub mod Rows
 pub mod StepSums
+pub mod ViewSquares
 pub mod AddUp
 pub mod Figures
 pub mod AsWorded

@@ -1,11 +1,24 @@
 // Sigma16 of a plane.
 use crate::Sigma;
-use crate::profiles::plane_profile;
 use frame::View;
 ghost use mathlib.Core.Path.{_≡_};
+ghost use Prim.Native.Nat.{_<_};
+ghost use Rattle.frame.specs.View.{viewed};
+ghost use Rattle.noise.specs.Seen.{Seen};
+ghost use Rattle.profile.specs.Steps.{planeSigma16};
 ghost use Rattle.profile.specs.Answers.{sigmaAnswer};
 
-// round(16 × root(sum of d² / count)), d the noise shifted right by depth − 8; 0 for an empty plane. It is the figure of a profile with one bin.
+// Sigma16 of what a view shows. A lag of a whole row leaves no products along it, so the pass takes squares alone.
+fn view_sigma16(src: &[u16], den: &[u16], view: View, shift: u32) -> u64
+    requires { ⌜ Seen view (now src) (now den) × (shift < 16) ⌝ }
+    ensures { λ r. ⌜ r ≡ planeSigma16 shift (viewed view (now (src .entry))) (viewed view (now (den .entry))) ⌝ }
+{
+    let sums = noise::plane_sums(src, den, view, view.width, shift);
+    let n = view.width * view.height;
+    float::sigma16(sums.squares as u64, n as u64)
+}
+
+// round(16 × root(sum of d² / count)), d the noise shifted right by depth − 8; 0 for an empty plane.
 pub fn plane_sigma16(src: &[u16], den: &[u16], width: usize, height: usize, depth: u8) -> Sigma
     ensures { λ r. ⌜ r ≡ sigmaAnswer width height depth (now (src .entry)) (now (den .entry)) ⌝ }
 {
@@ -16,27 +29,8 @@ pub fn plane_sigma16(src: &[u16], den: &[u16], width: usize, height: usize, dept
             sigma16: 0,
         };
     }
-    let view = View {
-        start: 0,
-        step: width,
-        stride: 1,
-        width,
-        height,
-    };
-    let mut sigma = [0; 1];
-    let mut count = [0; 1];
-    let mut squares = [0; 1];
-    let sigma16 = plane_profile(
-        src,
-        den,
-        view,
-        depth,
-        0,
-        1,
-        &mut sigma,
-        &mut count,
-        &mut squares,
-    );
+    let view = View::whole(width, height);
+    let sigma16 = view_sigma16(src, den, view, (depth - 8) as u32);
     Sigma {
         refusal: 0,
         sigma16,

@@ -3,7 +3,8 @@ use mathlib.Core.Path.{_≡_}
 use borrow.Author.Needs.{needs}
 use Rattle.frame.specs.View.{viewed}
 use Rattle.profile.specs.Steps.{planeSigma16}
-use Rattle.gate.proofs.Findings.{sigma-is, luma-low, luma-first, luma-row, luma-last}
+use Rattle.profile.proofs.ViewSquares.{sigma-is}
+use Rattle.gate.proofs.Findings.{luma-low, luma-first, luma-row, luma-last}
 use Rattle.gate.proofs.finding.luma_finding.Statement.{statement}
 use Rattle.gate.proofs.finding.luma_finding.Tie as tie
 

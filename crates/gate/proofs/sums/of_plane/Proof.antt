@@ -7,7 +7,8 @@ use mir.Val.{ofZ, toZ}
 use Rattle.laws.proofs.Is.{again, self}
 use Rattle.frame.specs.View.{viewed}
 use Rattle.profile.specs.Steps.{planeSquares}
-use Rattle.gate.proofs.PlaneSums.{squares-are, held-fits, dot-is, lagged-is}
+use Rattle.profile.proofs.ViewSquares.{squares-are, held-fits}
+use Rattle.gate.proofs.PlaneSums.{dot-is, lagged-is}
 use Rattle.gate.proofs.sums.of_plane.Statement.{statement}
 use Rattle.gate.proofs.sums.of_plane.Tie as tie
 
