@@ -9,32 +9,44 @@ use lib.IntN.{ℤ, natAbs}
 use lib.ListN.{length, getD}
 use lib.Pow.{pow-mono}
 use Rattle.laws.specs.Sums.{sumN}
-use Rattle.laws.proofs.Table.{length-tabulate, getD-tabulate}
+use Rattle.laws.specs.Table.{tabulate}
+use Rattle.laws.proofs.Table.{length-tabulate, getD-tabulate, tabulate-same}
+use Rattle.noise.specs.Lines.{at, rowNoise, Places}
+use Rattle.noise.specs.Shift.{shifted}
 use Rattle.noise.proofs.LineSums.{entry}
 use Rattle.profile.specs.Shifted.{shiftedNoise, squareOf, square}
 use Rattle.profile.specs.Bins.{binAt}
-use Rattle.profile.specs.Parts.{partLimit, shiftedLimit, squareLimit, LinesFrom, LinesOf, Binned, lineCount, lineSquares}
+use Rattle.profile.specs.Parts.{partLimit, shiftedLimit, squareLimit, coarseAt, Binned, lineCount, lineSquares}
 use Rattle.profile.specs.Runs.{Run, runCount, runSquares, Added, RunAdded, increased}
 use Rattle.profile.proofs.Range.{shifted-range, range-small, bin-shift}
 use Rattle.profile.proofs.Binning.{bin-ext}
 use Rattle.profile.proofs.Squares.{square-le, line-small}
 
+-- the lines of a part: shifted noise, and bins
+pub record LinesOf (source denoised : List ℕ) (start stride shift coarse n : ℕ) (line : List ℤ) (bins : List ℕ) : Type 0 where
+  pub line-is : line ≡ tabulate n (λ i. shiftedNoise shift source denoised (start + i * stride))
+  pub bins-is : bins ≡ tabulate n (coarseAt source start stride coarse)
+
+-- the noise of a run first, then shifted; and the bins
+pub lines-are : (source denoised : List ℕ) (start stride shift coarse : ℕ) {n m k : ℕ} {line own : List ℤ} {bins : List ℕ} → own ≡ tabulate m (rowNoise source denoised start stride) → line ≡ tabulate n (λ i. shifted shift (at own i)) → bins ≡ tabulate k (coarseAt source start stride coarse) → m ≡ n → k ≡ n
+    → LinesOf source denoised start stride shift coarse n line bins
+lines-are source denoised start stride shift coarse {n} o l b e f =
+    record {
+      line-is = l ∙ tabulate-same n _ _ (λ i h. ap (shifted shift) (entry n (rowNoise source denoised start stride) (o ∙ ap (λ (m : ℕ). tabulate m (rowNoise source denoised start stride)) e) i h));
+      bins-is = b ∙ ap (λ (m : ℕ). tabulate m (coarseAt source start stride coarse)) f;
+    }
+
 module _ {depth start stride n : ℕ} {source denoised : List ℕ} (R : Run depth source denoised start stride n) where
   -- what is below 2 ^ depth is below 2 ^ 15
-  pub run-lines : (bits m : ℕ) → m ≡ n → LinesFrom source denoised start stride (depth - 8) (depth - bits) n m
-  run-lines bits m e =
+  pub run-places : Places (2 ^ 15) source denoised start stride n
+  run-places =
       let most : 2 ^ depth ≤ 2 ^ 15 = le-trans (pow-mono (R .most-depth)) (lit≤ tt) in
       record {
-        places = record {
-          same = R .places .same;
-          begins = R .places .begins;
-          inside = R .places .inside;
-          source-low = λ i l. lt-of-lt-of-le (R .places .source-low i l) most;
-          denoised-low = λ i l. lt-of-lt-of-le (R .places .denoised-low i l) most;
-        };
-        same = e;
-        shift-small = omega (arith, R .most-depth);
-        coarse-small = omega (arith, R .most-depth);
+        same = R .places .same;
+        begins = R .places .begins;
+        inside = R .places .inside;
+        source-low = λ i l. lt-of-lt-of-le (R .places .source-low i l) most;
+        denoised-low = λ i l. lt-of-lt-of-le (R .places .denoised-low i l) most;
       }
 
   run-noise : (i : ℕ) → i < n → natAbs (shiftedNoise (depth - 8) source denoised (start + i * stride)) ≤ shiftedLimit

@@ -4,10 +4,9 @@ use mathlib.Core.List.{List}
 use Prim.Native.Nat.{ℕ, _+_, _*_, _/_, _^_, _≤_, _<_}
 use lib.IntN.{ℤ}
 use lib.ListN.{length, getD}
-use Rattle.laws.specs.Table.{tabulate}
 use Rattle.laws.specs.Sums.{total, sumN}
-use Rattle.noise.specs.Lines.{at, AtMost, Places}
-use Rattle.profile.specs.Shifted.{shiftedNoise, squareOf}
+use Rattle.noise.specs.Lines.{at, AtMost}
+use Rattle.profile.specs.Shifted.{squareOf}
 use Rattle.profile.specs.Bins.{inBin}
 
 -- the most samples of a part
@@ -23,17 +22,13 @@ squareLimit = shiftedLimit * shiftedLimit
 
 -- ---- the lines of a part
 
--- n places of two planes, and two lines for them; shifts that a u16 has bits for
-pub record LinesFrom (source denoised : List ℕ) (start stride shift coarse n bins : ℕ) : Type 0 where
-  pub places : Places (2 ^ 15) source denoised start stride n
-  pub same : bins ≡ n
-  pub shift-small : shift < 16
-  pub coarse-small : coarse < 16
+-- n places, from start on, stride apart, lie in a plane
+abbrev pub InPlane : List ℕ → ℕ → ℕ → ℕ → Type 0
+InPlane plane start stride n = (i : ℕ) → i < n → start + i * stride < length plane
 
--- the shifted noise of n places, and their samples shifted right by `coarse`
-pub record LinesOf (source denoised : List ℕ) (start stride shift coarse n : ℕ) (line : List ℤ) (bins : List ℕ) : Type 0 where
-  pub line-is : line ≡ tabulate n (λ i. shiftedNoise shift source denoised (start + i * stride))
-  pub bins-is : bins ≡ tabulate n (λ i. getD source (start + i * stride) 0 / 2 ^ coarse)
+-- the sample at place i of a run, shifted right by `coarse`
+abbrev pub coarseAt : List ℕ → ℕ → ℕ → ℕ → ℕ → ℕ
+coarseAt plane start stride coarse i = getD plane (start + i * stride) 0 / 2 ^ coarse
 
 -- ---- the bins of a part
 

@@ -1,5 +1,5 @@
 // The bins of a part: how many samples lie in each, and the sum of their squares.
-use crate::lines::part_lines;
+use crate::lines::bin_line;
 ghost use mathlib.Core.Path.{_≡_};
 ghost use mathlib.Core.Bool.{cond};
 ghost use Prim.Native.Nat.{_≤_, min, max};
@@ -155,6 +155,8 @@ pub fn add_part(
 {
     let shift = (depth - 8) as u32;
     let coarse = depth as u32 - bits;
-    part_lines(src, den, start, stride, shift, coarse, line, bins);
+    noise::noise_line(src, den, start, stride, own);
+    noise::shifted_line(own, shift, line);
+    bin_line(src, start, stride, coarse, bins);
     add_bins(line, bins, bits, own, count, squares);
 }

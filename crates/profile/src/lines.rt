@@ -1,8 +1,9 @@
-// The lines of a part: its noise, shifted right by depth − 8, and the bin of each sample.
+// The size of a part, lines for it, and the bin of each sample.
 ghost use mathlib.Core.Path.{_≡_};
-ghost use Prim.Native.Nat.{min};
+ghost use Prim.Native.Nat.{_<_, min};
 ghost use lib.ListN.{length};
-ghost use Rattle.profile.specs.Parts.{partLimit, LinesFrom, LinesOf};
+ghost use Rattle.laws.specs.Table.{tabulate};
+ghost use Rattle.profile.specs.Parts.{partLimit, InPlane, coarseAt};
 
 // The most samples of a part: few enough to stay in the cache, and to lie in few bins.
 pub const PART_LIMIT: usize = 256;
@@ -23,47 +24,24 @@ pub fn part_size(n: usize) -> usize
     if n < PART_LIMIT { n } else { PART_LIMIT }
 }
 
-// line[i] = (src[k] − den[k]) >> shift and bins[i] = src[k] >> coarse, at k = start + i × stride.
-fn lines_at(
-    src: &[u16],
-    den: &[u16],
-    start: usize,
-    stride: usize,
-    shift: u32,
-    coarse: u32,
-    line: &mut [i16],
-    bins: &mut [u16],
-)
-    requires { ⌜ LinesFrom (now src) (now den) start stride shift coarse (length (now line)) (length (now bins)) ⌝ }
-    ensures { λ _. ⌜ LinesOf (now (src .entry)) (now (den .entry)) start stride shift coarse (length (now (line .entry))) (now (line .exit)) (now (bins .exit)) ⌝ }
+// bins[i] = src[start + i × stride] >> coarse.
+fn bins_at(src: &[u16], start: usize, stride: usize, coarse: u32, bins: &mut [u16])
+    requires { ⌜ InPlane (now src) start stride (length (now bins)) × (coarse < 16) ⌝ }
+    ensures { λ _. ⌜ now (bins .exit) ≡ tabulate (length (now (bins .entry))) (coarseAt (now (src .entry)) start stride coarse) ⌝ }
 {
-    for i in 0..line.len() {
-        let k = start + i * stride;
-        let x = src[k];
-        let y = den[k];
-        let d = x as i16 - y as i16;
-        line[i] = d >> shift;
-        bins[i] = x >> coarse;
+    for i in 0..bins.len() {
+        bins[i] = src[start + i * stride] >> coarse;
     }
 }
 
-// These lines. With a stride of 1 written out, the back end makes packed loads, differences and shifts of the loop.
-pub fn part_lines(
-    src: &[u16],
-    den: &[u16],
-    start: usize,
-    stride: usize,
-    shift: u32,
-    coarse: u32,
-    line: &mut [i16],
-    bins: &mut [u16],
-)
-    requires { ⌜ LinesFrom (now src) (now den) start stride shift coarse (length (now line)) (length (now bins)) ⌝ }
-    ensures { λ _. ⌜ LinesOf (now (src .entry)) (now (den .entry)) start stride shift coarse (length (now (line .entry))) (now (line .exit)) (now (bins .exit)) ⌝ }
+// The bin of each sample of a part. With a stride of 1 written out, the back end makes packed loads and shifts of the loop.
+pub fn bin_line(src: &[u16], start: usize, stride: usize, coarse: u32, bins: &mut [u16])
+    requires { ⌜ InPlane (now src) start stride (length (now bins)) × (coarse < 16) ⌝ }
+    ensures { λ _. ⌜ now (bins .exit) ≡ tabulate (length (now (bins .entry))) (coarseAt (now (src .entry)) start stride coarse) ⌝ }
 {
     if stride == 1 {
-        lines_at(src, den, start, 1, shift, coarse, line, bins);
+        bins_at(src, start, 1, coarse, bins);
     } else {
-        lines_at(src, den, start, stride, shift, coarse, line, bins);
+        bins_at(src, start, stride, coarse, bins);
     }
 }
