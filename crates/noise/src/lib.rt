@@ -3,6 +3,7 @@ mod average;
 mod blocks;
 mod line;
 mod rows;
+mod squares;
 mod sums;
 
 pub use average::average_line;
@@ -13,5 +14,6 @@ pub use line::noise_line;
 pub use line::shifted_line;
 pub use rows::PairSums;
 pub use rows::pair_sums;
+pub use squares::shifted_squares;
 pub use sums::PlaneSums;
 pub use sums::plane_sums;

@@ -8,14 +8,14 @@ ghost use Rattle.noise.specs.Seen.{Seen};
 ghost use Rattle.profile.specs.Steps.{planeSigma16};
 ghost use Rattle.profile.specs.Answers.{sigmaAnswer};
 
-// Sigma16 of what a view shows. A lag of a whole row leaves no products along it, so the pass takes squares alone.
+// Sigma16 of what a view shows.
 fn view_sigma16(src: &[u16], den: &[u16], view: View, shift: u32) -> u64
     requires { ⌜ Seen view (now src) (now den) × (shift < 16) ⌝ }
     ensures { λ r. ⌜ r ≡ planeSigma16 shift (viewed view (now (src .entry))) (viewed view (now (den .entry))) ⌝ }
 {
-    let sums = noise::plane_sums(src, den, view, view.width, shift);
+    let squares = noise::shifted_squares(src, den, view, shift);
     let n = view.width * view.height;
-    float::sigma16(sums.squares as u64, n as u64)
+    float::sigma16(squares as u64, n as u64)
 }
 
 // round(16 × root(sum of d² / count)), d the noise shifted right by depth − 8; 0 for an empty plane.

@@ -16,24 +16,22 @@ mul-n : tie.Need-mul-n
 mul-n c = let S = c .before .before .before .before in area-fits (S .pre .0 .narrow) (S .pre .0 .low)
 
 -- the squares, exactly and as they are read back
-module _ (c : tie.After-struct-told) where
-  squares : let A = c .before .before .before .before .before .before .args in
-      c .before .before .before .plane-sums .result .squares ≡ pos (planeSquares (A .shift) (viewed (A .view) (A .src .now)) (viewed (A .view) (A .den .now)))
-  squares =
-      let A = c .before .before .before .before .before .before .args in
-      squares-are (A .view) (A .src .now) (A .den .now) (A .shift) (c .before .before .before .plane-sums .ensures .squares)
+module _ (c : tie.After-shifted-squares) where
+  squares : let A = c .before .before .before .args in
+      c .shifted-squares .result ≡ pos (planeSquares (A .shift) (viewed (A .view) (A .src .now)) (viewed (A .view) (A .den .now)))
+  squares = let A = c .before .before .before .args in squares-are (A .view) (A .src .now) (A .den .now) (A .shift) (c .shifted-squares .ensures)
 
-  read : let A = c .before .before .before .before .before .before .args in
-      toZ w64 (ofZ w64 (c .before .before .before .plane-sums .result .squares)) ≡ pos (planeSquares (A .shift) (viewed (A .view) (A .src .now)) (viewed (A .view) (A .den .now)))
-  read = again (self (record { sfits = search needs })) .eq ∙ squares
+  read : let A = c .before .before .before .args in
+      toZ w64 (ofZ w64 (c .shifted-squares .result)) ≡ pos (planeSquares (A .shift) (viewed (A .view) (A .src .now)) (viewed (A .view) (A .den .now)))
+  read = again (self (record { sfits = c .shifted-squares .ok })) .eq ∙ squares
 
 cast-sigma16 : tie.Need-cast-sigma16
-cast-sigma16 c = rw (read c) (tt, held-fits (search needs) (squares c))
+cast-sigma16 c = rw (read (c .before)) (tt, held-fits (c .before .shifted-squares .ok) (squares (c .before)))
 
 returns : tie.Need-returns
 returns c =
-    let A = c .before .before .before .before .before .before .before .args in
-    sigma-is (A .view) (A .shift) (A .src .now) (A .den .now) (ap natAbs (read (c .before))) (search needs) (c .sigma16 .ensures)
+    let A = c .before .before .before .before .before .args in
+    sigma-is (A .view) (A .shift) (A .src .now) (A .den .now) (ap natAbs (read (c .before .before))) (search needs) (c .sigma16 .ensures)
 
 pub view-sigma16-spec : {M : Type 1} → statement M
 view-sigma16-spec =
