@@ -50,7 +50,8 @@ static void denoise_frame(void)
     SAME(grain_denoise_frame(shape(3, 3, 9, 1), FRAME), GRAIN_DEPTH);
     SAME(grain_denoise_frame(shape(3, 3, 8, 4), FRAME), GRAIN_FORMAT);
     SAME(grain_denoise_frame(shape(3, 3, 8, 2), FRAME), GRAIN_PLANE_LENGTH);
-    SAME(grain_denoise_frame(shape(3, 3, 8, 1), LENT(y), LENT(cb), LENT(cr), LENT(y_den), LENT(cb_den), cr_den, 3), GRAIN_PLANE_LENGTH);
+    SAME(grain_denoise_frame(shape(3, 3, 8, 1), LENT(y), LENT(cb), LENT(cr), LENT(y_den), LENT(cb_den), cr_den, 3),
+         GRAIN_PLANE_LENGTH);
     cr[3] = 256;
     SAME(grain_denoise_frame(shape(3, 3, 8, 1), FRAME), GRAIN_SAMPLE_ABOVE_DEPTH);
     SAME_ALL(y_den, 500, 500, 500, 500, 500, 500, 500, 500, 500);
