@@ -1,21 +1,19 @@
 /* Film-grain figures for an AV1 encoder: the C interface of libgrain.a (System V ABI, x86-64).
  *
- * A plane is lent as a pointer and its number of samples: u16, in row order, place (r, c) of a plane w wide at
- * r * w + c. The pointer is aligned for its type and not null, also where there are 0 samples, and a plane that is
- * written overlaps no other plane of the call. No pointer is kept; a call takes less than 128 KiB of stack and no heap.
- * Noise n is source less denoised. Halves are rounded away from zero.
+ * A plane is lent as a pointer and its number of samples: 16 bits each, in row order with no padding between rows, so
+ * that row r and column c of a plane w wide stand at r * w + c. The pointer is aligned for its type; with 0 samples, as
+ * monochrome's chroma has, it may be NULL. A plane that is written overlaps no other plane of the call.
  *
- * Every call may be made with any numbers. A call that can refuse returns 0 in `refusal` (or as its result), or the
- * number of the first of these questions that fails, with every other field 0 and whatever was lent left as it was:
- *   1  Are width and height each at most 4,096?
- *   2  In a frame call, are both at least 1?
- *   3  Is the depth 8, 10 or 12?
- *   4  Is the format 0 to 3?
- *   5  Has every lent plane exactly its number of samples?
- *   6  In a call with a depth, is every source and denoised sample below 2^depth?
- *   7  Is the lag of a fit at most 3?
- *   8  Is the order of the solver 1 to 25?
- *   9  Is the register asked for at most 16 bits? */
+ * A call keeps no pointer and the library has no state, so any thread may call at any time. A call takes less than
+ * 128 KiB of stack and no heap. Doubles are worked in the mode that a C program starts in: rounded to nearest, subnormal
+ * numbers kept (no FTZ, no DAZ).
+ *
+ * Every call may be made with any numbers. It is asked those questions of grain_refusal that its comment names, in that
+ * order. `refusal`, or the result where there is no other, is 0 if all pass, and else the number of the first that fails;
+ * every other field is then 0, and whatever was lent is left as it was.
+ *
+ * Noise n is source less denoised. Halves are rounded away from zero. In grain_planes.h the calls on a frame take its
+ * planes as one struct. */
 #ifndef GRAIN_H
 #define GRAIN_H
 
@@ -23,13 +21,41 @@
 #include <stddef.h>
 #include <stdint.h>
 
+#define GRAIN_VERSION_MAJOR 0
+#define GRAIN_VERSION_MINOR 1
+#define GRAIN_VERSION_PATCH 0
+
+/* The largest width and height. */
+#define GRAIN_MAX_SIDE 4096
+
 #ifdef __cplusplus
 extern "C" {
 #endif
 
-/* A frame's size in luma samples, its depth in bits, and its format: 0 monochrome, 1 4:2:0, 2 4:2:2, 3 4:4:4.
- * Chroma is 0x0 for 0; (width + 1) / 2 wide for 1 and 2; (height + 1) / 2 high for 1; else as luma. */
-typedef struct {
+/* The questions put to a call. A later version may add to them. */
+enum grain_refusal {
+    GRAIN_ACCEPTED = 0,
+    GRAIN_SIDE_ABOVE_4096 = 1,    /* Are width and height each at most 4,096? */
+    GRAIN_EMPTY_FRAME = 2,        /* In a frame call, are both at least 1? */
+    GRAIN_DEPTH = 3,              /* Is the depth 8, 10 or 12? */
+    GRAIN_FORMAT = 4,             /* Is the format 0 to 3? */
+    GRAIN_PLANE_LENGTH = 5,       /* Has every lent plane exactly its number of samples? */
+    GRAIN_SAMPLE_ABOVE_DEPTH = 6, /* In a call with a depth, is every source and denoised sample below 2^depth? */
+    GRAIN_LAG_ABOVE_3 = 7,        /* Is the lag of a fit at most 3? */
+    GRAIN_SOLVER_ORDER = 8,       /* Is the order of the solver 1 to 25? */
+    GRAIN_REGISTER_BITS = 9       /* Is the register asked for at most 16 bits? */
+};
+
+enum grain_format {
+    GRAIN_MONOCHROME = 0,
+    GRAIN_YUV420 = 1,
+    GRAIN_YUV422 = 2,
+    GRAIN_YUV444 = 3
+};
+
+/* A frame's size in luma samples, its depth in bits and its grain_format. Chroma is 0x0 in monochrome; (width + 1) / 2
+ * wide in 4:2:0 and 4:2:2; (height + 1) / 2 high in 4:2:0; else as luma. */
+typedef struct grain_shape {
     size_t width;
     size_t height;
     uint8_t depth;
@@ -38,28 +64,31 @@ typedef struct {
 
 /* ---- Denoise ---- */
 
-/* dst(r, c) = (1 2 1 / 2 4 2 / 1 2 1 over the 3x3 neighbours of src(r, c), held at the edge, + 8) >> 4 */
+/* dst(r, c) = (1 2 1 / 2 4 2 / 1 2 1 over the 3x3 neighbours of src(r, c), held at the edge, + 8) >> 4
+ * Asked 1, 5. */
 uint32_t grain_denoise_plane(const uint16_t *src, size_t src_len, uint16_t *dst, size_t dst_len,
                              size_t width, size_t height);
 
-/* The same of each plane of a frame, at its own size. */
+/* Each plane of a frame as grain_denoise_plane has it, at its own size; the results go to the planes to_y, to_cb, to_cr.
+ * Asked 1, 2, 3, 4, 5, 6. */
 uint32_t grain_denoise_frame(grain_shape s, const uint16_t *y, size_t y_len, const uint16_t *cb, size_t cb_len,
                              const uint16_t *cr, size_t cr_len, uint16_t *to_y, size_t to_y_len,
                              uint16_t *to_cb, size_t to_cb_len, uint16_t *to_cr, size_t to_cr_len);
 
 /* ---- Sigma16 and the noise profile ---- */
 
-typedef struct {
+typedef struct grain_sigma {
     uint32_t refusal;
     uint64_t sigma16;
 } grain_sigma;
 
-/* round(16 * root(sum of d^2 / count)), d = n >> (depth - 8); 0 of an empty plane */
+/* round(16 * root(sum of d^2 / count)), d = n >> (depth - 8); 0 of an empty plane
+ * Asked 1, 3, 5, 6. */
 grain_sigma grain_plane_sigma16(const uint16_t *src, size_t src_len, const uint16_t *den, size_t den_len,
                                 size_t width, size_t height, uint8_t depth);
 
 /* Bin b of luma: the samples x with x >> (depth - 8) >> 5 = b. */
-typedef struct {
+typedef struct grain_luma_profile {
     uint64_t sigma16;
     uint64_t bin_sigma16[8];
     uint64_t bin_count[8];
@@ -67,14 +96,14 @@ typedef struct {
 } grain_luma_profile;
 
 /* Bin b of chroma: the samples x with x >> (depth - 8) >> 6 = b. */
-typedef struct {
+typedef struct grain_chroma_profile {
     uint64_t sigma16;
     uint64_t bin_sigma16[4];
     uint64_t bin_count[4];
     uint64_t bin_squares[4];
 } grain_chroma_profile;
 
-typedef struct {
+typedef struct grain_estimate {
     uint32_t refusal;
     grain_luma_profile luma;
     grain_chroma_profile cb;
@@ -82,46 +111,52 @@ typedef struct {
 } grain_estimate;
 
 /* Of each plane and of each bin: its sigma16, count and sum of d^2. A bin's sigma16 is the plane's where its count is
- * below max(n / 100, 64) in luma, max(n / 100, 32) in chroma, n the plane's samples. */
+ * below max(n / 100, 64) in luma, max(n / 100, 32) in chroma, n the plane's samples.
+ * Asked 1, 2, 3, 4, 5, 6. */
 grain_estimate grain_noise_estimate(grain_shape s, const uint16_t *y, size_t y_len, const uint16_t *cb, size_t cb_len,
                                     const uint16_t *cr, size_t cr_len, const uint16_t *y_den, size_t y_den_len,
                                     const uint16_t *cb_den, size_t cb_den_len, const uint16_t *cr_den, size_t cr_den_len);
 
 /* ---- Correlations and gates ---- */
 
-typedef struct {
+typedef struct grain_rho {
     uint32_t refusal;
     double value;
 } grain_rho;
 
 /* sum of n(r, c) * n(r, c + lag) / sum of n(r, c)^2, from -1 to 1; 0.0 if lag is 0, width is at most lag, height is 0 or
- * the divisor is 0 */
+ * the divisor is 0
+ * Asked 1, 3, 5, 6. */
 grain_rho grain_lag_h_rho(const uint16_t *src, size_t src_len, const uint16_t *den, size_t den_len,
                           size_t width, size_t height, size_t lag, uint8_t depth);
 
-typedef struct {
+typedef struct grain_gate {
     uint32_t refusal;
     bool yes;
 } grain_gate;
 
-/* Y of two frames and of their denoised copies: sigma16 >= 16, |rho at lag 1| < 0.75, no energy 0, and
- * |cross / root(e0 * e1)| < 0.4 */
+/* Y of two frames of one shape and of their denoised copies: sigma16 >= 16, |rho at lag 1| < 0.75, no energy 0, and
+ * |cross / root(e0 * e1)| < 0.4
+ * Asked 1, 2, 3, 4, 5, 6. */
 grain_gate grain_film_grain_probe(grain_shape s, const uint16_t *src0, size_t src0_len, const uint16_t *den0, size_t den0_len,
                                   const uint16_t *src1, size_t src1_len, const uint16_t *den1, size_t den1_len);
 
-/* One chroma component of two frames and of their denoised copies, and its sigma16: the same with sigma16 >= 8. */
+/* One chroma component of two frames of one shape and of their denoised copies, with its sigma16: the tests of
+ * grain_film_grain_probe, but sigma16 >= 8 and no empty plane
+ * Asked 1, 2, 3, 4, 5, 6. */
 grain_gate grain_chroma_noise_gate(grain_shape s, const uint16_t *src0, size_t src0_len, const uint16_t *den0, size_t den0_len,
                                    const uint16_t *src1, size_t src1_len, const uint16_t *den1, size_t den1_len,
                                    uint64_t sigma16);
 
-typedef struct {
+typedef struct grain_chroma_corr {
     uint32_t refusal;
     int32_t cb;
     int32_t cr;
 } grain_chroma_corr;
 
 /* Of Cb and of Cr: quant_ar(sum of a * n / sum of a^2), a the average of luma's noise at the chroma place; 0 where the
- * latter is at most 1e-9 */
+ * latter is at most 1e-9
+ * Asked 1, 2, 3, 4, 5, 6. */
 grain_chroma_corr grain_fit_chroma_corr(grain_shape s, const uint16_t *y, size_t y_len,
                                         const uint16_t *cb, size_t cb_len, const uint16_t *cr, size_t cr_len,
                                         const uint16_t *y_den, size_t y_den_len, const uint16_t *cb_den, size_t cb_den_len,
@@ -129,39 +164,43 @@ grain_chroma_corr grain_fit_chroma_corr(grain_shape s, const uint16_t *y, size_t
 
 /* ---- Fits ---- */
 
-/* round(64 * x), held to -128..127; 0 of NaN */
+/* round(64 * x), held to -128..127; 0 of NaN
+ * Asked nothing. */
 int32_t grain_quant_ar(double x);
 
 /* `order` values; the rest are 0.0. */
-typedef struct {
+typedef struct grain_solution {
     size_t order;
     double values[25];
 } grain_solution;
 
 /* Not found: no solution, since a pivot's magnitude is below 1e-9; a NaN passes. */
-typedef struct {
+typedef struct grain_solved {
     uint32_t refusal;
     bool found;
     grain_solution solution;
 } grain_solved;
 
-/* x with a * x = b, of the first `order` equations, by elimination with partial pivoting; a and b are left as they were */
-grain_solved grain_solve_normal(const double a[25][25], const double b[25], size_t order);
+/* x with a * x = b, of the first `order` equations, by elimination with partial pivoting. a is 25 rows of 25 doubles, row
+ * after row, and b 25 doubles; both are left as they were.
+ * Asked 8. */
+grain_solved grain_solve_normal(const double *a, const double *b, size_t order);
 
 /* Neighbour k < count of a sample lies rows[k] rows and columns[k] columns away. */
-typedef struct {
+typedef struct grain_positions {
     uint32_t refusal;
     size_t count;
     int32_t rows[24];
     int32_t columns[24];
 } grain_positions;
 
-/* Rows -lag to 0, columns -lag to lag, ending before the sample: 2 * lag * (lag + 1) neighbours */
+/* Rows -lag to 0, columns -lag to lag, ending before the sample: 2 * lag * (lag + 1) neighbours
+ * Asked 7. */
 grain_positions grain_ar_positions(size_t lag);
 
 /* `count` coefficients of luma; as many of Cb and of Cr, then the luma tap; the rest are 0. Not found: lag 0, a plane too
  * small (width <= 2 * lag or height <= lag), no noise, no solution, or all coefficients of luma 0. */
-typedef struct {
+typedef struct grain_fit {
     uint32_t refusal;
     bool found;
     size_t count;
@@ -171,39 +210,44 @@ typedef struct {
 } grain_fit;
 
 /* quant_ar of the least squares of a sample's noise by its neighbours' noises, and for chroma by luma's average as well;
- * chroma is 0 in monochrome, in too small a plane and without a solution */
+ * chroma is 0 in monochrome, in too small a plane and without a solution
+ * Asked 1, 2, 3, 4, 5, 6, 7. */
 grain_fit grain_fit_ar_lag(grain_shape s, const uint16_t *y, size_t y_len, const uint16_t *cb, size_t cb_len,
                            const uint16_t *cr, size_t cr_len, const uint16_t *y_den, size_t y_den_len,
                            const uint16_t *cb_den, size_t cb_den_len, const uint16_t *cr_den, size_t cr_den_len, size_t lag);
 
 /* ---- Seed and random register ---- */
 
-/* (hint * 0x9e37 + 0x51ed) mod 2^16 */
+/* (hint * 0x9e37 + 0x51ed) mod 2^16
+ * Asked nothing. */
 uint16_t grain_seed_for(uint32_t order_hint);
 
-typedef struct {
+typedef struct grain_random {
     uint16_t state;
 } grain_random;
 
-/* The register that holds the seed */
+/* The register that holds the seed
+ * Asked nothing. */
 grain_random grain_random_new(uint16_t seed);
 
-typedef struct {
+typedef struct grain_draw {
     uint32_t refusal;
     uint32_t value;
 } grain_draw;
 
-typedef struct {
+/* Steps the register: state = state >> 1 with the xor of its bits 0, 1, 3 and 12 at bit 15, value = state >> (16 - bits)
+ * Asked 9. */
+grain_draw grain_random_next(grain_random *r, uint32_t bits);
+
+typedef struct grain_stepped {
     uint32_t refusal;
     uint32_t value;
     grain_random after;
 } grain_stepped;
 
-/* after = r >> 1 with the xor of r's bits 0, 1, 3 and 12 at bit 15, value = after >> (16 - bits); refused, after = r */
+/* The draw of grain_random_next with the register after it, for a register by value; refused, after = r
+ * Asked 9. */
 grain_stepped grain_random_step(grain_random r, uint32_t bits);
-
-/* The same with the register's state stepped in place */
-grain_draw grain_random_next(uint16_t *state, uint32_t bits);
 
 #ifdef __cplusplus
 }

@@ -1,5 +1,6 @@
 pub use crate::missing::key_frame;
 
+#[rustfmt::skip]
 #[path = "../upstream/src/encoder/yuv_frame.rs"]
 pub mod yuv_frame;
 

@@ -6,14 +6,20 @@
 mod missing;
 pub use missing::{Error, bitreader, cdf, frame_header, platform, sequence_header, tile_info};
 
+// The published files stay as they are, so rustfmt isn't to follow these.
+#[rustfmt::skip]
 #[path = "../upstream/src/film_grain.rs"]
 pub mod film_grain;
+#[rustfmt::skip]
 #[path = "../upstream/src/film_grain_tables.rs"]
 pub mod film_grain_tables;
+#[rustfmt::skip]
 #[path = "../upstream/src/loop_filter.rs"]
 pub mod loop_filter;
+#[rustfmt::skip]
 #[path = "../upstream/src/superres.rs"]
 pub mod superres;
+#[rustfmt::skip]
 #[path = "../upstream/src/uncompressed_header_tail.rs"]
 pub mod uncompressed_header_tail;
 

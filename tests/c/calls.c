@@ -1,124 +1,9 @@
-/* Makes every call that include/grain.h declares, on the worked cases of the scope and on refusals. A comparison that
- * fails is written with its line; the last line is 'calls.c: N compared, M differ', and the status is 0 if M is. */
-#include "grain.h"
+/* Makes every call that include/grain.h declares, on the worked cases of the scope and on refusals. */
+#include "check.h"
 
 #include <math.h>
-#include <stdio.h>
-#include <string.h>
 
-/* ---- Layout: as the library lays its records out ---- */
-
-#define PLACED(type, field, at) _Static_assert(offsetof(type, field) == (at), #type "." #field)
-#define SIZED(type, size) _Static_assert(sizeof(type) == (size), #type)
-
-PLACED(grain_shape, width, 0);
-PLACED(grain_shape, height, 8);
-PLACED(grain_shape, depth, 16);
-PLACED(grain_shape, format, 17);
-SIZED(grain_shape, 24);
-PLACED(grain_sigma, sigma16, 8);
-SIZED(grain_sigma, 16);
-PLACED(grain_luma_profile, bin_sigma16, 8);
-PLACED(grain_luma_profile, bin_count, 72);
-PLACED(grain_luma_profile, bin_squares, 136);
-SIZED(grain_luma_profile, 200);
-PLACED(grain_chroma_profile, bin_sigma16, 8);
-PLACED(grain_chroma_profile, bin_count, 40);
-PLACED(grain_chroma_profile, bin_squares, 72);
-SIZED(grain_chroma_profile, 104);
-PLACED(grain_estimate, luma, 8);
-PLACED(grain_estimate, cb, 208);
-PLACED(grain_estimate, cr, 312);
-SIZED(grain_estimate, 416);
-PLACED(grain_rho, value, 8);
-SIZED(grain_rho, 16);
-PLACED(grain_gate, yes, 4);
-SIZED(grain_gate, 8);
-PLACED(grain_chroma_corr, cb, 4);
-PLACED(grain_chroma_corr, cr, 8);
-SIZED(grain_chroma_corr, 12);
-PLACED(grain_solution, values, 8);
-SIZED(grain_solution, 208);
-PLACED(grain_solved, found, 4);
-PLACED(grain_solved, solution, 8);
-SIZED(grain_solved, 216);
-PLACED(grain_positions, count, 8);
-PLACED(grain_positions, rows, 16);
-PLACED(grain_positions, columns, 112);
-SIZED(grain_positions, 208);
-PLACED(grain_fit, found, 4);
-PLACED(grain_fit, count, 8);
-PLACED(grain_fit, luma, 16);
-PLACED(grain_fit, cb, 112);
-PLACED(grain_fit, cr, 212);
-SIZED(grain_fit, 312);
-SIZED(grain_random, 2);
-PLACED(grain_draw, value, 4);
-SIZED(grain_draw, 8);
-PLACED(grain_stepped, value, 4);
-PLACED(grain_stepped, after, 8);
-SIZED(grain_stepped, 12);
-
-/* ---- Comparisons ---- */
-
-static int compared, differ;
-
-static void compare(int line, const char *what, const void *got, const void *want, size_t size)
-{
-    compared++;
-    if (memcmp(got, want, size) != 0) {
-        differ++;
-        printf("calls.c:%d: not so: %s\n", line, what);
-    }
-}
-
-static const char zeros[1024];
-
-/* whole numbers; doubles by their bits; the first elements of an array; all bytes of a field or of a plane */
-#define SAME(got, want) \
-    do { \
-        long long g_ = (got), w_ = (want); \
-        compare(__LINE__, #got " = " #want, &g_, &w_, sizeof g_); \
-    } while (0)
-#define SAME_F64(got, want) \
-    do { \
-        double g_ = (got), w_ = (want); \
-        compare(__LINE__, #got " = " #want, &g_, &w_, sizeof g_); \
-    } while (0)
-#define SAME_ALL(got, ...) \
-    do { \
-        __typeof__((got)[0]) w_[] = {__VA_ARGS__}; \
-        compare(__LINE__, #got " = " #__VA_ARGS__, got, w_, sizeof w_); \
-    } while (0)
-#define ZERO(field) compare(__LINE__, #field " = 0", &(field), zeros, sizeof(field))
-
-/* ---- Planes ---- */
-
-#define LENT(plane) (plane), sizeof(plane) / sizeof((plane)[0])
-#define NONE nothing, 0
-
-static uint16_t nothing[1];
 static uint16_t flat[4097];
-
-/* A source and a denoised copy with this noise. */
-static void samples(const int *noise, size_t n, uint16_t *src, uint16_t *den)
-{
-    for (size_t i = 0; i < n; i++) {
-        src[i] = (uint16_t)(512 + noise[i]);
-        den[i] = 512;
-    }
-}
-
-static void fill(uint16_t *plane, size_t n, uint16_t x)
-{
-    for (size_t i = 0; i < n; i++)
-        plane[i] = x;
-}
-
-static grain_shape shape(size_t width, size_t height, uint8_t depth, uint8_t format)
-{
-    return (grain_shape){width, height, depth, format};
-}
 
 /* ---- Denoise ---- */
 
@@ -126,29 +11,29 @@ static void denoise_plane(void)
 {
     uint16_t one[1] = {7}, two[2] = {0, 16}, nine[9] = {0, 0, 0, 0, 16}, top[4] = {65535, 65535, 65535, 65535};
     uint16_t d1[1] = {1}, d2[2] = {1, 1}, d9[9], d4[4] = {1, 1, 1, 1};
-    SAME(grain_denoise_plane(LENT(one), LENT(d1), 1, 1), 0);
+    SAME(grain_denoise_plane(LENT(one), LENT(d1), 1, 1), GRAIN_ACCEPTED);
     SAME_ALL(d1, 7);
-    SAME(grain_denoise_plane(LENT(two), LENT(d2), 2, 1), 0);
+    SAME(grain_denoise_plane(LENT(two), LENT(d2), 2, 1), GRAIN_ACCEPTED);
     SAME_ALL(d2, 4, 12);
-    SAME(grain_denoise_plane(LENT(nine), LENT(d9), 3, 3), 0);
+    SAME(grain_denoise_plane(LENT(nine), LENT(d9), 3, 3), GRAIN_ACCEPTED);
     SAME_ALL(d9, 1, 2, 1, 2, 4, 2, 1, 2, 1);
-    SAME(grain_denoise_plane(LENT(top), LENT(d4), 2, 2), 0);
+    SAME(grain_denoise_plane(LENT(top), LENT(d4), 2, 2), GRAIN_ACCEPTED);
     SAME_ALL(d4, 65535, 65535, 65535, 65535);
 
-    SAME(grain_denoise_plane(NONE, NONE, 0, 5), 0);
-    SAME(grain_denoise_plane(NONE, LENT(d1), 0, 5), 5);
-    SAME(grain_denoise_plane(LENT(two), LENT(d1), 2, 1), 5);
-    SAME(grain_denoise_plane(LENT(one), LENT(d2), 2, 1), 5);
-    SAME(grain_denoise_plane(NONE, LENT(d1), 4097, 0), 1);
-    SAME(grain_denoise_plane(NONE, LENT(d1), 0, 4097), 1);
+    SAME(grain_denoise_plane(NONE, NONE, 0, 5), GRAIN_ACCEPTED);
+    SAME(grain_denoise_plane(NONE, LENT(d1), 0, 5), GRAIN_PLANE_LENGTH);
+    SAME(grain_denoise_plane(LENT(two), LENT(d1), 2, 1), GRAIN_PLANE_LENGTH);
+    SAME(grain_denoise_plane(LENT(one), LENT(d2), 2, 1), GRAIN_PLANE_LENGTH);
+    SAME(grain_denoise_plane(NONE, LENT(d1), 4097, 0), GRAIN_SIDE_ABOVE_4096);
+    SAME(grain_denoise_plane(NONE, LENT(d1), 0, 4097), GRAIN_SIDE_ABOVE_4096);
     SAME_ALL(d1, 7);
     SAME_ALL(d2, 4, 12);
 
     static uint16_t row[4097];
     fill(row, 4097, 3);
-    SAME(grain_denoise_plane(flat, 4097, row, 4097, 4097, 1), 1);
+    SAME(grain_denoise_plane(flat, 4097, row, 4097, 4097, 1), GRAIN_SIDE_ABOVE_4096);
     SAME(row[0] + row[4096], 6);
-    SAME(grain_denoise_plane(flat, 4096, row, 4096, 4096, 1), 0);
+    SAME(grain_denoise_plane(flat, 4096, row, 4096, 4096, 1), GRAIN_ACCEPTED);
     SAME(row[0] + row[4095] + row[4096], 3);
 }
 
@@ -160,25 +45,26 @@ static void denoise_frame(void)
     fill(cb_den, 4, 501);
     fill(cr_den, 4, 502);
 #define FRAME LENT(y), LENT(cb), LENT(cr), LENT(y_den), LENT(cb_den), LENT(cr_den)
-    SAME(grain_denoise_frame(shape(4097, 3, 8, 1), FRAME), 1);
-    SAME(grain_denoise_frame(shape(0, 3, 8, 1), FRAME), 2);
-    SAME(grain_denoise_frame(shape(3, 3, 9, 1), FRAME), 3);
-    SAME(grain_denoise_frame(shape(3, 3, 8, 4), FRAME), 4);
-    SAME(grain_denoise_frame(shape(3, 3, 8, 2), FRAME), 5);
-    SAME(grain_denoise_frame(shape(3, 3, 8, 1), LENT(y), LENT(cb), LENT(cr), LENT(y_den), LENT(cb_den), cr_den, 3), 5);
+    SAME(grain_denoise_frame(shape(4097, 3, 8, 1), FRAME), GRAIN_SIDE_ABOVE_4096);
+    SAME(grain_denoise_frame(shape(0, 3, 8, 1), FRAME), GRAIN_EMPTY_FRAME);
+    SAME(grain_denoise_frame(shape(3, 3, 9, 1), FRAME), GRAIN_DEPTH);
+    SAME(grain_denoise_frame(shape(3, 3, 8, 4), FRAME), GRAIN_FORMAT);
+    SAME(grain_denoise_frame(shape(3, 3, 8, 2), FRAME), GRAIN_PLANE_LENGTH);
+    SAME(grain_denoise_frame(shape(3, 3, 8, 1), LENT(y), LENT(cb), LENT(cr), LENT(y_den), LENT(cb_den), cr_den, 3),
+         GRAIN_PLANE_LENGTH);
     cr[3] = 256;
-    SAME(grain_denoise_frame(shape(3, 3, 8, 1), FRAME), 6);
+    SAME(grain_denoise_frame(shape(3, 3, 8, 1), FRAME), GRAIN_SAMPLE_ABOVE_DEPTH);
     SAME_ALL(y_den, 500, 500, 500, 500, 500, 500, 500, 500, 500);
     SAME_ALL(cb_den, 501, 501, 501, 501);
     SAME_ALL(cr_den, 502, 502, 502, 502);
     cr[3] = 16;
-    SAME(grain_denoise_frame(shape(3, 3, 8, 1), FRAME), 0);
+    SAME(grain_denoise_frame(shape(3, 3, 8, 1), FRAME), GRAIN_ACCEPTED);
     SAME_ALL(y_den, 1, 2, 1, 2, 4, 2, 1, 2, 1);
     SAME_ALL(cb_den, 4, 12, 4, 12);
     SAME_ALL(cr_den, 4, 4, 12, 12);
 #undef FRAME
     fill(y_den, 9, 500);
-    SAME(grain_denoise_frame(shape(3, 3, 8, 0), LENT(y), NONE, NONE, LENT(y_den), NONE, NONE), 0);
+    SAME(grain_denoise_frame(shape(3, 3, 8, 0), LENT(y), NONE, NONE, LENT(y_den), NONE, NONE), GRAIN_ACCEPTED);
     SAME_ALL(y_den, 1, 2, 1, 2, 4, 2, 1, 2, 1);
 }
 
@@ -187,7 +73,7 @@ static void denoise_frame(void)
 static uint64_t sigma16(const uint16_t *src, const uint16_t *den, size_t n, uint8_t depth)
 {
     grain_sigma a = grain_plane_sigma16(src, n, den, n, n, 1, depth);
-    SAME(a.refusal, 0);
+    SAME(a.refusal, GRAIN_ACCEPTED);
     return a.sigma16;
 }
 
@@ -201,21 +87,22 @@ static void plane_sigma16(void)
     SAME(sigma16(one, flat, 1025, 8), 0);
     SAME(sigma16(fives, sixes, 3, 10), 16);
     SAME(sigma16(sixes, fives, 3, 10), 0);
-    SAME(sigma16(nothing, nothing, 0, 12), 0);
+    SAME(sigma16(NULL, NULL, 0, 12), 0);
+    SAME(sigma16(four, flat, 0, 12), 0);
 
     grain_sigma a = grain_plane_sigma16(flat, 4097, flat, 4097, 4097, 1, 8);
-    SAME(a.refusal, 1);
+    SAME(a.refusal, GRAIN_SIDE_ABOVE_4096);
     ZERO(a.sigma16);
-    SAME(grain_plane_sigma16(LENT(four), flat, 4, 4, 1, 9).refusal, 3);
-    SAME(grain_plane_sigma16(LENT(four), flat, 3, 4, 1, 8).refusal, 5);
+    SAME(grain_plane_sigma16(LENT(four), flat, 4, 4, 1, 9).refusal, GRAIN_DEPTH);
+    SAME(grain_plane_sigma16(LENT(four), flat, 3, 4, 1, 8).refusal, GRAIN_PLANE_LENGTH);
     four[3] = 255;
-    SAME(grain_plane_sigma16(LENT(four), flat, 4, 4, 1, 8).refusal, 0);
+    SAME(grain_plane_sigma16(LENT(four), flat, 4, 4, 1, 8).refusal, GRAIN_ACCEPTED);
     four[3] = 256;
     a = grain_plane_sigma16(LENT(four), flat, 4, 4, 1, 8);
-    SAME(a.refusal, 6);
+    SAME(a.refusal, GRAIN_SAMPLE_ABOVE_DEPTH);
     ZERO(a.sigma16);
     a = grain_plane_sigma16(flat, 4, LENT(four), 4, 1, 8);
-    SAME(a.refusal, 6);
+    SAME(a.refusal, GRAIN_SAMPLE_ABOVE_DEPTH);
     ZERO(a.sigma16);
 }
 
@@ -229,7 +116,7 @@ static uint64_t bin1(size_t width, size_t height, size_t few)
     fill(y, few, 33);
     fill(y_den, few, 32);
     grain_estimate a = grain_noise_estimate(shape(width, height, 8, 0), y, n, NONE, NONE, y_den, n, NONE, NONE);
-    SAME(a.refusal, 0);
+    SAME(a.refusal, GRAIN_ACCEPTED);
     SAME(a.luma.sigma16, 2);
     SAME(a.luma.bin_count[0], n - few);
     SAME(a.luma.bin_count[1], few);
@@ -245,7 +132,7 @@ static void noise_estimate(void)
     uint16_t y_den[4] = {30, 32, 31, 255}, cb_den[4] = {63, 62, 63, 255}, cr_den[4] = {0, 0, 64, 61};
 #define FRAME LENT(y), LENT(cb), LENT(cr), LENT(y_den), LENT(cb_den), LENT(cr_den)
     grain_estimate a = grain_noise_estimate(shape(2, 2, 8, 3), FRAME);
-    SAME(a.refusal, 0);
+    SAME(a.refusal, GRAIN_ACCEPTED);
     SAME(a.luma.sigma16, 8);
     SAME_ALL(a.luma.bin_sigma16, 8, 8, 8, 8, 8, 8, 8, 8);
     SAME_ALL(a.luma.bin_count, 2, 1, 0, 0, 0, 0, 0, 1);
@@ -261,7 +148,7 @@ static void noise_estimate(void)
 
     uint16_t ten[1] = {1023};
     a = grain_noise_estimate(shape(1, 1, 10, 0), LENT(ten), NONE, NONE, LENT(ten), NONE, NONE);
-    SAME(a.refusal, 0);
+    SAME(a.refusal, GRAIN_ACCEPTED);
     SAME(a.luma.bin_count[7], 1);
 
     SAME(bin1(80, 80, 64), 16);
@@ -269,14 +156,14 @@ static void noise_estimate(void)
     SAME(bin1(100, 65, 65), 16);
     SAME(bin1(100, 65, 64), 2);
 
-    SAME(grain_noise_estimate(shape(2, 4097, 8, 3), FRAME).refusal, 1);
-    SAME(grain_noise_estimate(shape(2, 0, 8, 3), FRAME).refusal, 2);
-    SAME(grain_noise_estimate(shape(2, 2, 0, 3), FRAME).refusal, 3);
-    SAME(grain_noise_estimate(shape(2, 2, 8, 4), FRAME).refusal, 4);
-    SAME(grain_noise_estimate(shape(2, 2, 8, 1), FRAME).refusal, 5);
+    SAME(grain_noise_estimate(shape(2, 4097, 8, 3), FRAME).refusal, GRAIN_SIDE_ABOVE_4096);
+    SAME(grain_noise_estimate(shape(2, 0, 8, 3), FRAME).refusal, GRAIN_EMPTY_FRAME);
+    SAME(grain_noise_estimate(shape(2, 2, 0, 3), FRAME).refusal, GRAIN_DEPTH);
+    SAME(grain_noise_estimate(shape(2, 2, 8, 4), FRAME).refusal, GRAIN_FORMAT);
+    SAME(grain_noise_estimate(shape(2, 2, 8, 1), FRAME).refusal, GRAIN_PLANE_LENGTH);
     cr_den[0] = 256;
     a = grain_noise_estimate(shape(2, 2, 8, 3), FRAME);
-    SAME(a.refusal, 6);
+    SAME(a.refusal, GRAIN_SAMPLE_ABOVE_DEPTH);
     ZERO(a.luma);
     ZERO(a.cb);
     ZERO(a.cr);
@@ -291,7 +178,7 @@ static double rho(const int *noise, size_t width, size_t height, size_t lag)
     size_t n = width * height;
     samples(noise, n, src, den);
     grain_rho a = grain_lag_h_rho(src, n, den, n, width, height, lag, 10);
-    SAME(a.refusal, 0);
+    SAME(a.refusal, GRAIN_ACCEPTED);
     return a.value;
 }
 
@@ -308,12 +195,12 @@ static void lag_h_rho(void)
 
     uint16_t high[1] = {1024};
     grain_rho a = grain_lag_h_rho(LENT(high), LENT(high), 1, 1, 1, 10);
-    SAME(a.refusal, 6);
+    SAME(a.refusal, GRAIN_SAMPLE_ABOVE_DEPTH);
     SAME_F64(a.value, 0.0);
-    SAME(grain_lag_h_rho(LENT(high), LENT(high), 4097, 1, 1, 10).refusal, 1);
-    SAME(grain_lag_h_rho(LENT(high), LENT(high), 1, 1, 1, 11).refusal, 3);
-    SAME(grain_lag_h_rho(LENT(high), NONE, 1, 1, 1, 10).refusal, 5);
-    SAME(grain_lag_h_rho(LENT(high), LENT(high), 1, 1, 1, 12).refusal, 0);
+    SAME(grain_lag_h_rho(LENT(high), LENT(high), 4097, 1, 1, 10).refusal, GRAIN_SIDE_ABOVE_4096);
+    SAME(grain_lag_h_rho(LENT(high), LENT(high), 1, 1, 1, 11).refusal, GRAIN_DEPTH);
+    SAME(grain_lag_h_rho(LENT(high), NONE, 1, 1, 1, 10).refusal, GRAIN_PLANE_LENGTH);
+    SAME(grain_lag_h_rho(LENT(high), LENT(high), 1, 1, 1, 12).refusal, GRAIN_ACCEPTED);
 }
 
 /* The gates of two frames of one row; chroma is handed the sigma16. At 8 bits the noise shows unshifted. */
@@ -326,7 +213,7 @@ static bool luma(const int *first, const int *second, size_t n)
         den0[i] = den1[i] = 100;
     }
     grain_gate a = grain_film_grain_probe(shape(n, 1, 8, 0), src0, n, den0, n, src1, n, den1, n);
-    SAME(a.refusal, 0);
+    SAME(a.refusal, GRAIN_ACCEPTED);
     return a.yes;
 }
 
@@ -336,7 +223,7 @@ static bool chroma(const int *first, const int *second, size_t n, uint64_t sigma
     samples(first, n, src0, den0);
     samples(second, n, src1, den1);
     grain_gate a = grain_chroma_noise_gate(shape(2 * n, 1, 10, 1), src0, n, den0, n, src1, n, den1, n, sigma);
-    SAME(a.refusal, 0);
+    SAME(a.refusal, GRAIN_ACCEPTED);
     return a.yes;
 }
 
@@ -361,24 +248,24 @@ static void gates(void)
     uint16_t low[4] = {0}, high[4] = {256};
 #define FOUR LENT(low), LENT(low), LENT(low), LENT(high)
     grain_gate g = grain_film_grain_probe(shape(4, 1, 8, 0), FOUR);
-    SAME(g.refusal, 6);
+    SAME(g.refusal, GRAIN_SAMPLE_ABOVE_DEPTH);
     ZERO(g.yes);
-    SAME(grain_film_grain_probe(shape(4097, 1, 8, 0), FOUR).refusal, 1);
-    SAME(grain_film_grain_probe(shape(4, 0, 8, 0), FOUR).refusal, 2);
-    SAME(grain_film_grain_probe(shape(4, 1, 7, 0), FOUR).refusal, 3);
-    SAME(grain_film_grain_probe(shape(4, 1, 8, 9), FOUR).refusal, 4);
-    SAME(grain_film_grain_probe(shape(3, 1, 8, 0), FOUR).refusal, 5);
+    SAME(grain_film_grain_probe(shape(4097, 1, 8, 0), FOUR).refusal, GRAIN_SIDE_ABOVE_4096);
+    SAME(grain_film_grain_probe(shape(4, 0, 8, 0), FOUR).refusal, GRAIN_EMPTY_FRAME);
+    SAME(grain_film_grain_probe(shape(4, 1, 7, 0), FOUR).refusal, GRAIN_DEPTH);
+    SAME(grain_film_grain_probe(shape(4, 1, 8, 9), FOUR).refusal, GRAIN_FORMAT);
+    SAME(grain_film_grain_probe(shape(3, 1, 8, 0), FOUR).refusal, GRAIN_PLANE_LENGTH);
     g = grain_chroma_noise_gate(shape(4, 1, 8, 3), FOUR, 8);
-    SAME(g.refusal, 6);
+    SAME(g.refusal, GRAIN_SAMPLE_ABOVE_DEPTH);
     ZERO(g.yes);
-    SAME(grain_chroma_noise_gate(shape(4, 4097, 8, 3), FOUR, 8).refusal, 1);
-    SAME(grain_chroma_noise_gate(shape(0, 1, 8, 3), FOUR, 8).refusal, 2);
-    SAME(grain_chroma_noise_gate(shape(4, 1, 16, 3), FOUR, 8).refusal, 3);
-    SAME(grain_chroma_noise_gate(shape(4, 1, 8, 4), FOUR, 8).refusal, 4);
-    SAME(grain_chroma_noise_gate(shape(4, 1, 8, 1), FOUR, 8).refusal, 5);
+    SAME(grain_chroma_noise_gate(shape(4, 4097, 8, 3), FOUR, 8).refusal, GRAIN_SIDE_ABOVE_4096);
+    SAME(grain_chroma_noise_gate(shape(0, 1, 8, 3), FOUR, 8).refusal, GRAIN_EMPTY_FRAME);
+    SAME(grain_chroma_noise_gate(shape(4, 1, 16, 3), FOUR, 8).refusal, GRAIN_DEPTH);
+    SAME(grain_chroma_noise_gate(shape(4, 1, 8, 4), FOUR, 8).refusal, GRAIN_FORMAT);
+    SAME(grain_chroma_noise_gate(shape(4, 1, 8, 1), FOUR, 8).refusal, GRAIN_PLANE_LENGTH);
 #undef FOUR
     g = grain_chroma_noise_gate(shape(4, 1, 8, 0), NONE, NONE, NONE, NONE, 8);
-    SAME(g.refusal, 0);
+    SAME(g.refusal, GRAIN_ACCEPTED);
     SAME(g.yes, false);
 }
 
@@ -387,22 +274,22 @@ static void fit_chroma_corr(void)
     uint16_t y[3] = {0, 4, 8}, cb[2] = {1, 1}, cr[2] = {0, 0}, y_den[3] = {0}, cb_den[2] = {0}, cr_den[2] = {2, 2};
 #define FRAME LENT(y), LENT(cb), LENT(cr), LENT(y_den), LENT(cb_den), LENT(cr_den)
     grain_chroma_corr a = grain_fit_chroma_corr(shape(3, 1, 8, 1), FRAME);
-    SAME(a.refusal, 0);
+    SAME(a.refusal, GRAIN_ACCEPTED);
     SAME(a.cb, 9);
     SAME(a.cr, -19);
-    SAME(grain_fit_chroma_corr(shape(4097, 1, 8, 1), FRAME).refusal, 1);
-    SAME(grain_fit_chroma_corr(shape(3, 0, 8, 1), FRAME).refusal, 2);
-    SAME(grain_fit_chroma_corr(shape(3, 1, 255, 1), FRAME).refusal, 3);
-    SAME(grain_fit_chroma_corr(shape(3, 1, 8, 255), FRAME).refusal, 4);
-    SAME(grain_fit_chroma_corr(shape(3, 1, 8, 3), FRAME).refusal, 5);
+    SAME(grain_fit_chroma_corr(shape(4097, 1, 8, 1), FRAME).refusal, GRAIN_SIDE_ABOVE_4096);
+    SAME(grain_fit_chroma_corr(shape(3, 0, 8, 1), FRAME).refusal, GRAIN_EMPTY_FRAME);
+    SAME(grain_fit_chroma_corr(shape(3, 1, 255, 1), FRAME).refusal, GRAIN_DEPTH);
+    SAME(grain_fit_chroma_corr(shape(3, 1, 8, 255), FRAME).refusal, GRAIN_FORMAT);
+    SAME(grain_fit_chroma_corr(shape(3, 1, 8, 3), FRAME).refusal, GRAIN_PLANE_LENGTH);
     cb_den[1] = 256;
     a = grain_fit_chroma_corr(shape(3, 1, 8, 1), FRAME);
-    SAME(a.refusal, 6);
+    SAME(a.refusal, GRAIN_SAMPLE_ABOVE_DEPTH);
     ZERO(a.cb);
     ZERO(a.cr);
 #undef FRAME
     a = grain_fit_chroma_corr(shape(3, 1, 8, 0), LENT(y), NONE, NONE, LENT(y_den), NONE, NONE);
-    SAME(a.refusal, 0);
+    SAME(a.refusal, GRAIN_ACCEPTED);
     SAME(a.cb, 0);
     SAME(a.cr, 0);
 }
@@ -425,8 +312,8 @@ static void solve_normal(void)
     static double a[25][25];
     double b[25] = {3, 4, 5};
     a[0][1] = a[1][0] = 1;
-    grain_solved x = grain_solve_normal(a, b, 2);
-    SAME(x.refusal, 0);
+    grain_solved x = grain_solve_normal(a[0], b, 2);
+    SAME(x.refusal, GRAIN_ACCEPTED);
     SAME(x.found, true);
     SAME(x.solution.order, 2);
     SAME_ALL(x.solution.values, 4, 3, 0, 0, 0, 0, 0, 0, 0, 0, 0, 0, 0, 0, 0, 0, 0, 0, 0, 0, 0, 0, 0, 0, 0);
@@ -439,28 +326,28 @@ static void solve_normal(void)
             a[i][j] = i == j ? 2 : 0;
         b[i] = i;
     }
-    x = grain_solve_normal(a, b, 25);
+    x = grain_solve_normal(a[0], b, 25);
     SAME(x.solution.order, 25);
     SAME_F64(x.solution.values[24], 12);
 
     size_t refused[2] = {0, 26};
     for (int i = 0; i < 2; i++) {
-        x = grain_solve_normal(a, b, refused[i]);
-        SAME(x.refusal, 8);
+        x = grain_solve_normal(a[0], b, refused[i]);
+        SAME(x.refusal, GRAIN_SOLVER_ORDER);
         ZERO(x.found);
         ZERO(x.solution);
     }
     a[0][0] = b[0] = 1e-9;
-    x = grain_solve_normal(a, b, 1);
+    x = grain_solve_normal(a[0], b, 1);
     SAME(x.found, true);
     SAME_F64(x.solution.values[0], 1);
     a[0][0] = 0.999e-9;
-    x = grain_solve_normal(a, b, 1);
-    SAME(x.refusal, 0);
+    x = grain_solve_normal(a[0], b, 1);
+    SAME(x.refusal, GRAIN_ACCEPTED);
     ZERO(x.found);
     ZERO(x.solution);
     a[0][0] = NAN;
-    x = grain_solve_normal(a, b, 1);
+    x = grain_solve_normal(a[0], b, 1);
     SAME(x.found, true);
     SAME(isnan(x.solution.values[0]) != 0, true);
 }
@@ -468,7 +355,7 @@ static void solve_normal(void)
 static void ar_positions(void)
 {
     grain_positions p = grain_ar_positions(1);
-    SAME(p.refusal, 0);
+    SAME(p.refusal, GRAIN_ACCEPTED);
     SAME(p.count, 4);
     SAME_ALL(p.rows, -1, -1, -1, 0, 0, 0, 0, 0, 0, 0, 0, 0, 0, 0, 0, 0, 0, 0, 0, 0, 0, 0, 0, 0);
     SAME_ALL(p.columns, -1, 0, 1, -1, 0, 0, 0, 0, 0, 0, 0, 0, 0, 0, 0, 0, 0, 0, 0, 0, 0, 0, 0, 0);
@@ -480,7 +367,7 @@ static void ar_positions(void)
     SAME(p.columns[23], -1);
     SAME(grain_ar_positions(0).count, 0);
     p = grain_ar_positions(4);
-    SAME(p.refusal, 7);
+    SAME(p.refusal, GRAIN_LAG_ABOVE_3);
     ZERO(p.count);
     ZERO(p.rows);
     ZERO(p.columns);
@@ -506,7 +393,7 @@ static void fit_ar_lag(void)
     samples(n[2], H * W, cr, cr_den);
 #define FRAME LENT(y), LENT(cb), LENT(cr), LENT(y_den), LENT(cb_den), LENT(cr_den)
     grain_fit a = grain_fit_ar_lag(shape(W, H, 10, 3), FRAME, 1);
-    SAME(a.refusal, 0);
+    SAME(a.refusal, GRAIN_ACCEPTED);
     SAME(a.found, true);
     SAME(a.count, 4);
     SAME_ALL(a.luma, 64, 0, 0, 0, 0, 0, 0, 0, 0, 0, 0, 0, 0, 0, 0, 0, 0, 0, 0, 0, 0, 0, 0, 0);
@@ -514,17 +401,17 @@ static void fit_ar_lag(void)
     SAME_ALL(a.cr, 0, 0, 0, -64, 64, 0, 0, 0, 0, 0, 0, 0, 0, 0, 0, 0, 0, 0, 0, 0, 0, 0, 0, 0, 0);
 
     a = grain_fit_ar_lag(shape(2, 2, 10, 0), y, 4, NONE, NONE, y_den, 4, NONE, NONE, 1);
-    SAME(a.refusal, 0);
+    SAME(a.refusal, GRAIN_ACCEPTED);
     SAME(a.found, false);
     SAME(grain_fit_ar_lag(shape(W, H, 10, 3), FRAME, 0).found, false);
-    SAME(grain_fit_ar_lag(shape(W, 4097, 10, 3), FRAME, 1).refusal, 1);
-    SAME(grain_fit_ar_lag(shape(W, 0, 10, 3), FRAME, 1).refusal, 2);
-    SAME(grain_fit_ar_lag(shape(W, H, 14, 3), FRAME, 1).refusal, 3);
-    SAME(grain_fit_ar_lag(shape(W, H, 10, 4), FRAME, 1).refusal, 4);
-    SAME(grain_fit_ar_lag(shape(W, H, 10, 1), FRAME, 1).refusal, 5);
-    SAME(grain_fit_ar_lag(shape(W, H, 8, 3), FRAME, 4).refusal, 6);
+    SAME(grain_fit_ar_lag(shape(W, 4097, 10, 3), FRAME, 1).refusal, GRAIN_SIDE_ABOVE_4096);
+    SAME(grain_fit_ar_lag(shape(W, 0, 10, 3), FRAME, 1).refusal, GRAIN_EMPTY_FRAME);
+    SAME(grain_fit_ar_lag(shape(W, H, 14, 3), FRAME, 1).refusal, GRAIN_DEPTH);
+    SAME(grain_fit_ar_lag(shape(W, H, 10, 4), FRAME, 1).refusal, GRAIN_FORMAT);
+    SAME(grain_fit_ar_lag(shape(W, H, 10, 1), FRAME, 1).refusal, GRAIN_PLANE_LENGTH);
+    SAME(grain_fit_ar_lag(shape(W, H, 8, 3), FRAME, 4).refusal, GRAIN_SAMPLE_ABOVE_DEPTH);
     a = grain_fit_ar_lag(shape(W, H, 10, 3), FRAME, 4);
-    SAME(a.refusal, 7);
+    SAME(a.refusal, GRAIN_LAG_ABOVE_3);
     ZERO(a.found);
     ZERO(a.count);
     ZERO(a.luma);
@@ -544,30 +431,30 @@ static void draws(void)
 
     SAME(grain_random_new(65535).state, 65535);
     grain_stepped s = grain_random_step(grain_random_new(1), 11);
-    SAME(s.refusal, 0);
+    SAME(s.refusal, GRAIN_ACCEPTED);
     SAME(s.value, 1024);
     SAME(s.after.state, 32768);
     SAME(grain_random_step(grain_random_new(1), 16).value, 32768);
     SAME(grain_random_step(grain_random_new(1), 0).value, 0);
     SAME(grain_random_step(grain_random_new(1), 0).after.state, 32768);
     s = grain_random_step(grain_random_new(1), 17);
-    SAME(s.refusal, 9);
+    SAME(s.refusal, GRAIN_REGISTER_BITS);
     SAME(s.value, 0);
     SAME(s.after.state, 1);
 
-    uint16_t state = 1;
-    grain_draw d = grain_random_next(&state, 17);
-    SAME(d.refusal, 9);
+    grain_random r = grain_random_new(1);
+    grain_draw d = grain_random_next(&r, 17);
+    SAME(d.refusal, GRAIN_REGISTER_BITS);
     SAME(d.value, 0);
-    SAME(state, 1);
-    d = grain_random_next(&state, 11);
-    SAME(d.refusal, 0);
+    SAME(r.state, 1);
+    d = grain_random_next(&r, 11);
+    SAME(d.refusal, GRAIN_ACCEPTED);
     SAME(d.value, 1024);
-    SAME(state, 32768);
-    d = grain_random_next(&state, 0);
-    SAME(d.refusal, 0);
+    SAME(r.state, 32768);
+    d = grain_random_next(&r, 0);
+    SAME(d.refusal, GRAIN_ACCEPTED);
     SAME(d.value, 0);
-    SAME(state, 16384);
+    SAME(r.state, 16384);
 }
 
 int main(void)
@@ -584,6 +471,5 @@ int main(void)
     ar_positions();
     fit_ar_lag();
     draws();
-    printf("calls.c: %d compared, %d differ\n", compared, differ);
-    return differ != 0;
+    return ended("calls.c");
 }

@@ -2,11 +2,11 @@
 use lib.Ieee.{fin}
 use lib.IntN.{pos}
 use mathlib.Core.Bool.{false}
-use Prim.Native.Nat.{ℕ}
 use Rattle.gate.specs.declared.Rho.{Rho}
 use Rattle.gate.specs.declared.Rho.the-variants as rho
 use Rattle.random.specs.declared.register.Draw.{Draw}
 use Rattle.random.specs.declared.register.Draw.the-variants as draw
+use Rattle.random.specs.declared.register.RandomRegister.{RandomRegister}
 use Rattle.random.specs.declared.register.Stepped.{Stepped}
 use Rattle.grain.specs.declared.gates.RhoRecord.{RhoRecord}
 use Rattle.grain.specs.declared.draws.DrawRecord.{DrawRecord}
@@ -26,6 +26,6 @@ ofStepped s =
     let d = ofDraw (s .draw) in
     record { refusal = d .refusal; value = d .value; after = s .register }
 
--- the draw, and the state that the register is left with
-abbrev pub ofNext : Stepped → DrawRecord × ℕ
-ofNext s = (ofDraw (s .draw), s .register .state)
+-- the draw, and the register as it is left
+abbrev pub ofNext : Stepped → DrawRecord × RandomRegister
+ofNext s = (ofDraw (s .draw), s .register)

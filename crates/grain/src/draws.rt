@@ -66,12 +66,13 @@ pub extern "C" fn grain_random_step(register: RandomRegister, bits: u32) -> Step
 }
 
 #[no_mangle]
-pub extern "C" fn grain_random_next(state: &mut u16, bits: u32) -> DrawRecord
-    ensures { λ r. ⌜ (r, now (state .exit)) ≡ ofNext (step (record { state = now (state .entry) }) bits) ⌝ }
+pub extern "C" fn grain_random_next(register: &mut RandomRegister, bits: u32) -> DrawRecord
+    ensures { λ r. ⌜ (r, now (register .exit)) ≡ ofNext (step (now (register .entry)) bits) ⌝ }
 {
-    let s = random::draw_from(*state, bits);
-    let after = s.register;
-    *state = after.state;
-    let draw = s.draw;
-    record_of(draw)
+    let s = grain_random_step(*register, bits);
+    *register = s.after;
+    DrawRecord {
+        refusal: s.refusal,
+        value: s.value,
+    }
 }

@@ -2,22 +2,30 @@
 //!
 //! An answer is a list of words: whole numbers as they are, floats by their bits, what may be missing behind a 1 or a 0.
 
+use crate::branches::{self, Branches};
 use crate::input::{Input, Plane, Planes};
 use crate::questions::Asks;
 use crate::random::Random;
-use crate::{ours, raw, rust};
+use crate::raw::{self, Record};
+use crate::{ours, rust};
 use grain::{Chroma, Refusal};
 
 /// The words of an accepted answer.
 pub type Words = Vec<u64>;
 
 pub type Ours = fn(&Input, &mut Planes) -> Result<Words, Refusal>;
+pub type Raw = fn(&Input, &mut Planes) -> Record;
 pub type Rust = fn(&Input, &mut Planes) -> Words;
 
 pub struct Call {
     pub name: &'static str,
+    /// By the safe crate, which can't name a format above 3.
     pub ours: Ours,
+    /// By the C interface.
+    pub raw: Raw,
     pub rust: Rust,
+    /// What a run has to meet.
+    pub branches: Branches,
     pub asks: Asks,
     /// The planes it is lent, in the order of the interface.
     pub lent: &'static [Plane],
@@ -29,26 +37,31 @@ pub struct Call {
     pub share: usize,
     /// What the answer carries and the Rust keeps inside, worked out plainly.
     pub added: fn(&Input) -> Words,
-    /// A frame call by the C interface, for formats that the safe one can't name.
-    pub raw: Option<fn(&Input, &mut Planes) -> u32>,
     /// The numbers it is timed with, and how many times as fast as the Rust it should be on the largest planes.
     pub timed: &'static [(u64, Option<f64>)],
 }
 
 impl Call {
-    /// A call that is asked and lent nothing. Both sides must be given; a row of the table says what is otherwise.
-    pub const fn new(name: &'static str, ours: Ours, rust: Rust) -> Self {
+    /// A call that is asked and lent nothing. All sides must be given; a row of the table says what is otherwise.
+    pub const fn new(
+        name: &'static str,
+        ours: Ours,
+        raw: Raw,
+        rust: Rust,
+        branches: Branches,
+    ) -> Self {
         Call {
             name,
             ours,
+            raw,
             rust,
+            branches,
             asks: Asks::NOTHING,
             lent: &[],
             destinations: 0,
             number: |_| 0,
             share: 1,
             added: |_| Words::new(),
-            raw: None,
             timed: &[(0, None)],
         }
     }
@@ -112,31 +125,53 @@ pub const CALLS: &[Call] = &[
         destinations: 1,
         share: 4,
         timed: &[(0, Some(6.0))],
-        ..Call::new("denoise_plane", ours::denoise_plane, rust::denoise_plane)
+        ..Call::new(
+            "denoise_plane",
+            ours::denoise_plane,
+            raw::denoise_plane,
+            rust::denoise_plane,
+            branches::DENOISE_PLANE,
+        )
     },
     Call {
         asks: SHAPE,
         lent: FRAME,
         destinations: 3,
         share: 4,
-        raw: Some(raw::denoise_frame),
         timed: &[(0, Some(6.0))],
-        ..Call::new("denoise_frame", ours::denoise_frame, rust::denoise_frame)
+        ..Call::new(
+            "denoise_frame",
+            ours::denoise_frame,
+            raw::denoise_frame,
+            rust::denoise_frame,
+            branches::DENOISE_FRAME,
+        )
     },
     Call {
         asks: SIZE_AND_DEPTH,
         lent: BOTH,
         share: 4,
-        ..Call::new("plane_sigma16", ours::plane_sigma16, rust::plane_sigma16)
+        ..Call::new(
+            "plane_sigma16",
+            ours::plane_sigma16,
+            raw::plane_sigma16,
+            rust::plane_sigma16,
+            branches::SIGMA16,
+        )
     },
     Call {
         asks: SHAPE,
         lent: FRAME_AND_COPY,
         share: 6,
         added: rust::bins,
-        raw: Some(raw::noise_estimate),
         timed: &[(0, Some(1.5))],
-        ..Call::new("noise_estimate", ours::noise_estimate, rust::noise_estimate)
+        ..Call::new(
+            "noise_estimate",
+            ours::noise_estimate,
+            raw::noise_estimate,
+            rust::noise_estimate,
+            branches::PROFILE,
+        )
     },
     Call {
         asks: SIZE_AND_DEPTH,
@@ -144,18 +179,25 @@ pub const CALLS: &[Call] = &[
         number: |random| random.pick(&[0, 1, 2, 3, 4, 5, 8, 31, 33, 100, 4095, 4096, u64::MAX]),
         share: 5,
         timed: &[(1, Some(8.0))],
-        ..Call::new("lag_h_rho", ours::lag_h_rho, rust::lag_h_rho)
+        ..Call::new(
+            "lag_h_rho",
+            ours::lag_h_rho,
+            raw::lag_h_rho,
+            rust::lag_h_rho,
+            branches::ROW_CORRELATION,
+        )
     },
     Call {
         asks: SHAPE,
         lent: &two(0),
         share: 6,
-        raw: Some(raw::film_grain_probe),
         timed: &[(0, Some(8.0))],
         ..Call::new(
             "film_grain_probe",
             ours::film_grain_probe,
+            raw::film_grain_probe,
             rust::film_grain_probe,
+            branches::LUMA_GATE,
         )
     },
     Call {
@@ -163,12 +205,13 @@ pub const CALLS: &[Call] = &[
         lent: &two(1),
         number: sigma16,
         share: 4,
-        raw: Some(|input, _| raw::chroma_noise_gate(input, 1)),
         timed: &[(100, Some(8.0))],
         ..Call::new(
             "chroma_noise_gate/cb",
             |input, _| ours::chroma_noise_gate(input, Chroma::Cb),
+            |input, _| raw::chroma_noise_gate(input, 1),
             |input, _| rust::chroma_noise_gate(input, 1),
+            branches::CB_GATE,
         )
     },
     Call {
@@ -176,24 +219,26 @@ pub const CALLS: &[Call] = &[
         lent: &two(2),
         number: sigma16,
         share: 4,
-        raw: Some(|input, _| raw::chroma_noise_gate(input, 2)),
         timed: &[(100, Some(8.0))],
         ..Call::new(
             "chroma_noise_gate/cr",
             |input, _| ours::chroma_noise_gate(input, Chroma::Cr),
+            |input, _| raw::chroma_noise_gate(input, 2),
             |input, _| rust::chroma_noise_gate(input, 2),
+            branches::CR_GATE,
         )
     },
     Call {
         asks: SHAPE,
         lent: FRAME_AND_COPY,
         share: 6,
-        raw: Some(raw::fit_chroma_corr),
         timed: &[(0, Some(8.0))],
         ..Call::new(
             "fit_chroma_corr",
             ours::fit_chroma_corr,
+            raw::fit_chroma_corr,
             rust::fit_chroma_corr,
+            branches::CHROMA_CORRELATION,
         )
     },
     Call {
@@ -203,16 +248,27 @@ pub const CALLS: &[Call] = &[
         },
         number: lag,
         timed: &[(3, None)],
-        ..Call::new("ar_positions", ours::ar_positions, rust::ar_positions)
+        ..Call::new(
+            "ar_positions",
+            ours::ar_positions,
+            raw::ar_positions,
+            rust::ar_positions,
+            branches::POSITIONS,
+        )
     },
     Call {
         asks: Asks { lag: true, ..SHAPE },
         lent: FRAME_AND_COPY,
         number: lag,
         share: 12,
-        raw: Some(raw::fit_ar_lag),
         timed: &[(1, Some(35.0)), (2, Some(35.0)), (3, Some(60.0))],
-        ..Call::new("fit_ar_lag", ours::fit_ar_lag, rust::fit_ar_lag)
+        ..Call::new(
+            "fit_ar_lag",
+            ours::fit_ar_lag,
+            raw::fit_ar_lag,
+            rust::fit_ar_lag,
+            branches::FIT,
+        )
     },
     Call {
         asks: Asks {
@@ -226,17 +282,35 @@ pub const CALLS: &[Call] = &[
         },
         share: 5,
         timed: &[(24, None)],
-        ..Call::new("solve_normal", ours::solve_normal, rust::solve_normal)
+        ..Call::new(
+            "solve_normal",
+            ours::solve_normal,
+            raw::solve_normal,
+            rust::solve_normal,
+            branches::SOLVER,
+        )
     },
     Call {
         share: 4,
-        ..Call::new("quant_ar", ours::quant_ar, rust::quant_ar)
+        ..Call::new(
+            "quant_ar",
+            ours::quant_ar,
+            raw::quant_ar,
+            rust::quant_ar,
+            branches::QUANTISER,
+        )
     },
     Call {
         number: |random| random.bits() >> random.pick(&[32, 48]),
         share: 2,
         timed: &[(1, None)],
-        ..Call::new("grain_seed_for", ours::grain_seed_for, rust::grain_seed_for)
+        ..Call::new(
+            "grain_seed_for",
+            ours::grain_seed_for,
+            raw::grain_seed_for,
+            rust::grain_seed_for,
+            branches::SEED,
+        )
     },
     Call {
         asks: Asks {
@@ -251,7 +325,9 @@ pub const CALLS: &[Call] = &[
         ..Call::new(
             "RandomRegister::next",
             ours::register_next,
+            raw::register_next,
             rust::register_next,
+            branches::REGISTER,
         )
     },
 ];

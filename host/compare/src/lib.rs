@@ -1,6 +1,7 @@
 //! The library beside the Rust that it ports: the same calls on the same planes, for comparison and for timing.
 #![deny(unsafe_code)]
 
+pub mod branches;
 pub mod calls;
 pub mod case;
 pub mod clock;
@@ -11,8 +12,9 @@ mod ours;
 pub mod outcome;
 pub mod questions;
 pub mod random;
-mod raw;
+pub mod raw;
 mod rust;
 pub mod scan;
 pub mod system;
+pub mod tally;
 mod words;

@@ -35,7 +35,7 @@ pub enum Noise {
     EqualColumns,
     /// Linear in row and column: a singular system.
     Ramp,
-    /// The same with one sample off by one: a nearly singular system.
+    /// A ramp with one sample off by one: a nearly singular system.
     NearRamp,
     /// Equal rows with one sample off by one.
     NearRows,

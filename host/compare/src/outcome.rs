@@ -1,5 +1,6 @@
 //! What comes of a case, and what should.
 
+use crate::branches::Taken;
 use crate::calls::{Call, Words};
 use crate::case::Case;
 use crate::input::{Input, Planes};
@@ -12,19 +13,38 @@ use std::fmt;
 pub struct Outcome {
     pub answer: Result<Words, u32>,
     pub planes: Planes,
+    /// Fields of a C record that ought to be 0 and aren't.
+    pub stray: Words,
 }
 
-/// What the library does.
+/// What the safe crate does.
 fn ours(call: &Call, input: &Input) -> Outcome {
     let mut planes = input.destination.clone();
-    let answer = match call.raw {
-        Some(raw) if input.format > 3 => Err(raw(input, &mut planes)),
-        _ => (call.ours)(input, &mut planes).map_err(Refusal::number),
-    };
-    Outcome { answer, planes }
+    let answer = (call.ours)(input, &mut planes).map_err(Refusal::number);
+    Outcome {
+        answer,
+        planes,
+        stray: Words::new(),
+    }
 }
 
-/// What it should do: refuse with the first question failed and leave the destinations, or else do as the Rust does.
+/// What the C interface does.
+fn raw(call: &Call, input: &Input) -> Outcome {
+    let mut planes = input.destination.clone();
+    let record = (call.raw)(input, &mut planes);
+    let stray = record.stray();
+    let answer = match record.refusal {
+        0 => Ok(record.words),
+        number => Err(number),
+    };
+    Outcome {
+        answer,
+        planes,
+        stray,
+    }
+}
+
+/// What both should do: refuse with the first question failed and leave the destinations, or else do as the Rust does.
 fn due(call: &Call, input: &Input) -> Outcome {
     let mut planes = input.destination.clone();
     let answer = match questions::first_failed(call, input) {
@@ -35,35 +55,62 @@ fn due(call: &Call, input: &Input) -> Outcome {
         }
         Some(number) => Err(number),
     };
-    Outcome { answer, planes }
+    Outcome {
+        answer,
+        planes,
+        stray: Words::new(),
+    }
 }
 
-/// Both outcomes of a case.
+/// The outcomes of a case.
 pub struct Comparison {
-    pub ours: Outcome,
+    /// None of a format that the safe crate has no name for.
+    pub ours: Option<Outcome>,
+    pub raw: Outcome,
     pub due: Outcome,
     /// The call is accepted, writes no plane and has no words: there is nothing to compare.
     pub silent: bool,
+    /// The branches that an accepted case takes.
+    pub taken: Taken,
 }
 
 impl Comparison {
     pub fn new(case: &Case) -> Self {
-        let input = Input::new(case);
-        let (ours, due) = (ours(case.call, &input), due(case.call, &input));
+        let (call, input) = (case.call, Input::new(case));
+        let ours = (input.format <= 3).then(|| ours(call, &input));
+        let (raw, due) = (raw(call, &input), due(call, &input));
         let wordless = due.answer.as_ref().is_ok_and(Words::is_empty);
-        let silent = wordless && case.call.destinations == 0;
-        Comparison { ours, due, silent }
+        let silent = wordless && call.destinations == 0;
+        let taken = match &due.answer {
+            Ok(words) if !silent => (call.branches.taken)(&input, words),
+            _ => Taken::new(),
+        };
+        Comparison {
+            ours,
+            raw,
+            due,
+            silent,
+            taken,
+        }
     }
 
     pub fn agrees(&self) -> bool {
-        self.ours == self.due && !self.silent
+        let ours = self.ours.iter();
+        ours.chain([&self.raw]).all(|found| *found == self.due) && !self.silent
     }
 }
 
 impl fmt::Display for Comparison {
     fn fmt(&self, f: &mut fmt::Formatter<'_>) -> fmt::Result {
-        let (ours, due) = (self.ours.shown(), self.due.shown());
-        write!(f, "  ours {ours}\n  due  {due}")?;
+        if let Some(ours) = &self.ours {
+            writeln!(f, "  ours {}", ours.shown())?;
+        }
+        write!(
+            f,
+            "  C    {}\n  due  {}",
+            self.raw.shown(),
+            self.due.shown()
+        )?;
         match self.silent {
             true => write!(f, "\n  an accepted call that says nothing"),
             false => Ok(()),
@@ -83,6 +130,10 @@ impl Outcome {
         let answer = match &self.answer {
             Ok(words) => format!("{:?}", words.iter().map(|&w| w as i64).collect::<Vec<_>>()),
             Err(number) => format!("refused with {number}"),
+        };
+        let answer = match &self.stray[..] {
+            [] => answer,
+            stray => format!("{answer}, not 0 as they ought to be {stray:?}"),
         };
         let planes: Vec<String> = self.planes.iter().map(|p| cut(p)).collect();
         match self.planes.iter().all(Vec::is_empty) {

@@ -3,9 +3,10 @@
 use crate::calls::Call;
 use crate::input::{Input, plane_size};
 
-/// Which of the scope's questions a call is asked, beside the lengths of what it is lent: those about things it receives.
+/// Which of the scope's questions a call is asked: those about things it receives.
 #[derive(Clone, Copy)]
 pub struct Asks {
+    /// A size, and lent planes.
     pub size: bool,
     /// A frame call: both sides at least 1, and a format.
     pub frame: bool,
@@ -32,6 +33,12 @@ pub struct Question {
     passed: fn(&Call, &Input) -> bool,
 }
 
+impl Question {
+    pub fn is_put_to(&self, call: &Call) -> bool {
+        (self.asked)(call.asks)
+    }
+}
+
 /// In the order in which they are asked.
 pub const QUESTIONS: &[Question] = &[
     Question {
@@ -56,7 +63,7 @@ pub const QUESTIONS: &[Question] = &[
     },
     Question {
         number: 5,
-        asked: |_| true,
+        asked: |asks| asks.size,
         passed: whole,
     },
     Question {
@@ -101,7 +108,7 @@ fn low(call: &Call, input: &Input) -> bool {
 
 /// The number of the first question that the call is asked and fails.
 pub fn first_failed(call: &Call, input: &Input) -> Option<u32> {
-    let mut asked = QUESTIONS.iter().filter(|q| (q.asked)(call.asks));
+    let mut asked = QUESTIONS.iter().filter(|q| q.is_put_to(call));
     let failed = asked.find(|q| !(q.passed)(call, input));
     failed.map(|question| question.number)
 }

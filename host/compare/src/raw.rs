@@ -1,10 +1,41 @@
-//! Frame calls by the C interface itself, with whatever number a case has for its format.
+//! The library's side of the table by the C interface itself: whole records, refused or accepted, and whatever number a
+//! case has for its format.
 #![allow(unsafe_code)]
 
+use crate::calls::Words;
 use crate::input::{Input, Planes};
+use crate::rust::STEPS;
+use crate::words::{coefficients, float, positions, solution, whole};
 use grain::sys::{self, call};
 use grain::{Format, Shape};
 use oracle::YuvFrame;
+
+/// What a function of the C interface answers.
+pub struct Record {
+    pub refusal: u32,
+    /// As the table has them.
+    pub words: Words,
+    /// The fields that an accepted answer leaves 0. A refused one leaves the words 0 as well.
+    pub unused: Words,
+}
+
+impl Record {
+    /// One whose every field is in use.
+    pub fn full(refusal: u32, words: Words) -> Self {
+        Record {
+            refusal,
+            words,
+            unused: Words::new(),
+        }
+    }
+
+    /// The words that ought to be 0 and aren't.
+    pub fn stray(&self) -> Words {
+        let words = self.words.iter().filter(|_| self.refusal != 0);
+        let nonzero = words.chain(&self.unused).filter(|&&word| word != 0);
+        nonzero.copied().collect()
+    }
+}
 
 fn shape(input: &Input) -> sys::Shape {
     let named = Shape::new(input.width, input.height, input.depth, Format::Monochrome);
@@ -18,50 +49,162 @@ fn planes(frame: &YuvFrame) -> [&[u16]; 3] {
     [&frame.y, &frame.u, &frame.v]
 }
 
-/// The number that an interface function answers of six planes, a frame's and its copy's.
+/// What an interface function answers of six planes, a frame's and its copy's.
 macro_rules! of_pair {
     ($name:ident, $input:expr $(, $number:expr)*) => {{
         let [y, cb, cr] = planes(&$input.frames[0]);
         let [y_den, cb_den, cr_den] = planes(&$input.denoised[0]);
         // SAFETY: the slices are borrowed, and none is written.
-        unsafe { call!($name, [shape($input)], [y, cb, cr, y_den, cb_den, cr_den], [$($number),*]) }.refusal
+        unsafe { call!($name, [shape($input)], [y, cb, cr, y_den, cb_den, cr_den], [$($number),*]) }
     }};
 }
 
-pub fn noise_estimate(input: &Input, _: &mut Planes) -> u32 {
-    of_pair!(grain_noise_estimate, input)
-}
-
-pub fn fit_chroma_corr(input: &Input, _: &mut Planes) -> u32 {
-    of_pair!(grain_fit_chroma_corr, input)
-}
-
-pub fn fit_ar_lag(input: &Input, _: &mut Planes) -> u32 {
-    of_pair!(grain_fit_ar_lag, input, input.number as usize)
-}
-
-pub fn denoise_frame(input: &Input, [y_den, cb_den, cr_den]: &mut Planes) -> u32 {
-    let [y, cb, cr] = planes(&input.frames[0]);
-    // SAFETY: each destination is borrowed alone.
-    unsafe {
-        call!(grain_denoise_frame, [shape(input)], [y, cb, cr], mut [y_den, cb_den, cr_den], [])
-    }
-}
-
-/// The number that an interface function answers of one component of two frames and of their copies.
+/// What an interface function answers of one component of two frames and of their copies.
 macro_rules! of_two_frames {
     ($name:ident, $input:expr, $component:expr $(, $number:expr)*) => {{
         let ([first, second], [copy, other]) = (&$input.frames, &$input.denoised);
         let [src0, den0, src1, den1] = [first, copy, second, other].map(|f| planes(f)[$component]);
         // SAFETY: the slices are borrowed, and none is written.
-        unsafe { call!($name, [shape($input)], [src0, den0, src1, den1], [$($number),*]) }.refusal
+        let found = unsafe { call!($name, [shape($input)], [src0, den0, src1, den1], [$($number),*]) };
+        Record::full(found.refusal, vec![found.yes.into()])
     }};
 }
 
-pub fn film_grain_probe(input: &Input, _: &mut Planes) -> u32 {
+pub fn denoise_plane(input: &Input, [dst, ..]: &mut Planes) -> Record {
+    let (src, w, h) = (&input.frames[0].y, input.width, input.height);
+    // SAFETY: the destination is borrowed alone.
+    let refusal = unsafe { call!(grain_denoise_plane, [], [src], mut [dst], [w, h]) };
+    Record::full(refusal, Words::new())
+}
+
+pub fn denoise_frame(input: &Input, [to_y, to_cb, to_cr]: &mut Planes) -> Record {
+    let [y, cb, cr] = planes(&input.frames[0]);
+    // SAFETY: each destination is borrowed alone.
+    let refusal = unsafe {
+        call!(grain_denoise_frame, [shape(input)], [y, cb, cr], mut [to_y, to_cb, to_cr], [])
+    };
+    Record::full(refusal, Words::new())
+}
+
+pub fn plane_sigma16(input: &Input, _: &mut Planes) -> Record {
+    let (src, den) = (&input.frames[0].y, &input.denoised[0].y);
+    let (w, h, depth) = (input.width, input.height, input.depth);
+    // SAFETY: the slices are borrowed, and none is written.
+    let found = unsafe { call!(grain_plane_sigma16, [], [src, den], [w, h, depth]) };
+    Record::full(found.refusal, vec![found.sigma16])
+}
+
+fn sigmas<const N: usize>(p: &sys::Profile<N>) -> impl Iterator<Item = u64> {
+    [p.sigma16].into_iter().chain(p.bin_sigma16)
+}
+
+fn counts<const N: usize>(p: &sys::Profile<N>) -> impl Iterator<Item = u64> {
+    p.bin_count.into_iter().chain(p.bin_squares)
+}
+
+pub fn noise_estimate(input: &Input, _: &mut Planes) -> Record {
+    let found = of_pair!(grain_noise_estimate, input);
+    let sigmas = sigmas(&found.luma).chain(sigmas(&found.cb).chain(sigmas(&found.cr)));
+    let counts = counts(&found.luma).chain(counts(&found.cb).chain(counts(&found.cr)));
+    Record::full(found.refusal, sigmas.chain(counts).collect())
+}
+
+pub fn lag_h_rho(input: &Input, _: &mut Planes) -> Record {
+    let (src, den) = (&input.frames[0].y, &input.denoised[0].y);
+    let (w, h, depth) = (input.width, input.height, input.depth);
+    let lag = input.number as usize;
+    // SAFETY: the slices are borrowed, and none is written.
+    let found = unsafe { call!(grain_lag_h_rho, [], [src, den], [w, h, lag, depth]) };
+    Record::full(found.refusal, vec![float(found.value)])
+}
+
+pub fn film_grain_probe(input: &Input, _: &mut Planes) -> Record {
     of_two_frames!(grain_film_grain_probe, input, 0)
 }
 
-pub fn chroma_noise_gate(input: &Input, component: usize) -> u32 {
+pub fn chroma_noise_gate(input: &Input, component: usize) -> Record {
     of_two_frames!(grain_chroma_noise_gate, input, component, input.number)
+}
+
+pub fn fit_chroma_corr(input: &Input, _: &mut Planes) -> Record {
+    let found = of_pair!(grain_fit_chroma_corr, input);
+    Record::full(found.refusal, vec![whole(found.cb), whole(found.cr)])
+}
+
+pub fn ar_positions(input: &Input, _: &mut Planes) -> Record {
+    // SAFETY: a number alone is passed.
+    let found = unsafe { sys::grain_ar_positions(input.number as usize) };
+    let (rows, unused_rows) = found.rows.split_at(found.count);
+    let (columns, unused_columns) = found.columns.split_at(found.count);
+    let places = rows.iter().copied().zip(columns.iter().copied());
+    let unused = unused_rows.iter().chain(unused_columns);
+    Record {
+        refusal: found.refusal,
+        words: positions(places.collect()),
+        unused: unused.copied().map(whole).collect(),
+    }
+}
+
+pub fn fit_ar_lag(input: &Input, _: &mut Planes) -> Record {
+    let lag = input.number as usize;
+    let found = of_pair!(grain_fit_ar_lag, input, lag);
+    let used = if found.found { found.count } else { 0 };
+    let taps = if found.found { used + 1 } else { 0 };
+    let (y, rest) = found.luma.split_at(used);
+    let ((cb, cb_rest), (cr, cr_rest)) = (found.cb.split_at(taps), found.cr.split_at(taps));
+    let fitted = || (lag as u8, [y, cb, cr].map(<[i32]>::to_vec));
+    let unused = rest.iter().chain(cb_rest).chain(cr_rest).copied();
+    Record {
+        refusal: found.refusal,
+        words: coefficients(found.found.then(fitted)),
+        unused: unused
+            .map(whole)
+            .chain([(found.count - used) as u64])
+            .collect(),
+    }
+}
+
+pub fn solve_normal(input: &Input, _: &mut Planes) -> Record {
+    let (a, b) = (input.system.a.as_flattened(), &input.system.b);
+    // SAFETY: the pointers are to 25 rows of 25 and to 25 values.
+    let found = unsafe { sys::grain_solve_normal(a.as_ptr(), b.as_ptr(), input.number as usize) };
+    let order = found.solution.order;
+    let used = if found.found { order } else { 0 };
+    let (values, rest) = found.solution.values.split_at(used);
+    let unused = rest.iter().map(|x| x.to_bits());
+    Record {
+        refusal: found.refusal,
+        words: solution(found.found.then(|| values.to_vec())),
+        unused: unused.chain([(order - used) as u64]).collect(),
+    }
+}
+
+pub fn quant_ar(input: &Input, _: &mut Planes) -> Record {
+    // SAFETY: a number alone is passed.
+    Record::full(
+        0,
+        vec![whole(unsafe { sys::grain_quant_ar(input.system.float) })],
+    )
+}
+
+pub fn grain_seed_for(input: &Input, _: &mut Planes) -> Record {
+    // SAFETY: a number alone is passed.
+    let seed = unsafe { sys::grain_seed_for(input.number as u32) };
+    Record::full(0, vec![seed.into()])
+}
+
+/// By the step of a register by value; the safe crate lends its register.
+pub fn register_next(input: &Input, out: &mut Planes) -> Record {
+    // SAFETY: numbers alone are passed.
+    let mut register = unsafe { sys::grain_random_new(out[0][0]) };
+    let mut record = Record::full(0, Words::new());
+    for _ in 0..STEPS {
+        // SAFETY: as above.
+        let stepped = unsafe { sys::grain_random_step(register, input.number as u32) };
+        record.refusal = stepped.refusal;
+        record.words.push(stepped.value.into());
+        register = stepped.after;
+    }
+    out[0][0] = register.state;
+    record
 }

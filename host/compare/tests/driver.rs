@@ -1,12 +1,15 @@
 //! The driver itself: cases are written and read, a failing one is shrunk, and every call of the table is drawn and
 //! answers something.
 
+use compare::branches::Branches;
 use compare::calls::{CALLS, Call};
 use compare::case::Case;
 use compare::draw;
 use compare::input::Input;
 use compare::outcome::Comparison;
 use compare::questions::QUESTIONS;
+use compare::raw::Record;
+use compare::tally::Tally;
 use grain::Refusal;
 use std::collections::HashSet;
 
@@ -38,7 +41,7 @@ fn a_failing_case_is_shrunk() {
 #[test]
 fn every_call_answers() {
     let answers = |case: &Case| {
-        let found = Comparison::new(case).ours;
+        let found = Comparison::new(case).raw;
         let written = found.planes != Input::new(case).destination;
         found.answer.is_ok_and(|words| written || !words.is_empty())
     };
@@ -52,21 +55,23 @@ fn every_call_answers() {
 /// Two sides that both say nothing don't agree.
 #[test]
 fn an_empty_answer_is_no_answer() {
-    static SILENT: Call = Call::new("silent", |_, _| Ok(Vec::new()), |_, _| Vec::new());
+    const NONE: Branches = Branches {
+        all: &[],
+        taken: |_, _| Vec::new(),
+    };
+    static SILENT: Call = Call::new(
+        "silent",
+        |_, _| Ok(Vec::new()),
+        |_, _| Record::full(0, Vec::new()),
+        |_, _| Vec::new(),
+        NONE,
+    );
     let mut case: Case = "quant_ar:0:0x0:8:0:flat:0:none".parse().expect("a case");
     assert!(Comparison::new(&case).agrees());
     case.call = &SILENT;
     let found = Comparison::new(&case);
-    assert_eq!(found.ours, found.due);
+    assert_eq!(found.raw, found.due);
     assert!(!found.agrees());
-}
-
-/// The safe functions can't name a format above 3, so every frame call is made by the C interface as well.
-#[test]
-fn frame_calls_are_refused_formats() {
-    for call in CALLS {
-        assert_eq!(call.raw.is_some(), call.asks.frame, "{}", call.name);
-    }
 }
 
 #[test]
@@ -77,4 +82,57 @@ fn questions_are_those_of_the_crate() {
         .map(|refusal| refusal.number())
         .collect();
     assert_eq!(asked, named);
+}
+
+/// What a record has beside its answer is 0, and of a refused one the answer as well.
+#[test]
+fn a_stray_field_is_found() {
+    let record = |refusal, words: &[u64], unused: &[u64]| Record {
+        refusal,
+        words: words.to_vec(),
+        unused: unused.to_vec(),
+    };
+    assert_eq!(record(0, &[1, 2], &[0, 0]).stray(), []);
+    assert_eq!(record(0, &[1, 2], &[0, 3]).stray(), [3]);
+    assert_eq!(record(5, &[0, 2], &[0, 0]).stray(), [2]);
+}
+
+/// The comment above a call in include/grain.h names the questions that the table puts to it.
+#[test]
+fn the_header_names_the_questions() {
+    let header = include_str!("../../../include/grain.h");
+    let calls = CALLS
+        .iter()
+        .filter(|call| call.name != "chroma_noise_gate/cr");
+    for call in calls {
+        let name = match call.name {
+            "RandomRegister::next" => "grain_random_next",
+            "grain_seed_for" => "grain_seed_for",
+            other => &format!("grain_{}", other.trim_end_matches("/cb")),
+        };
+        let (before, _) = header
+            .split_once(&format!(" {name}("))
+            .expect("a declaration");
+        let (_, asked) = before.rsplit_once("Asked ").expect("a comment");
+        let (asked, _) = asked.split_once('.').expect("its end");
+        let put = QUESTIONS.iter().filter(|question| question.is_put_to(call));
+        let numbers: Vec<String> = put.map(|question| question.number.to_string()).collect();
+        let due = match &numbers[..] {
+            [] => "nothing".into(),
+            some => some.join(", "),
+        };
+        assert_eq!(asked, due, "{name}");
+    }
+}
+
+/// A run that is too short to meet everything says what it missed.
+#[test]
+fn what_was_missed_is_named() {
+    let mut tally = Tally::default();
+    let case: Case = "quant_ar:0:0x0:8:0:flat:0:none".parse().expect("a case");
+    tally.count(case.call, &Comparison::new(&case));
+    assert_eq!(tally.total(), 1);
+    let missed = tally.missed();
+    assert!(missed.contains(&"fit_ar_lag: chroma unsolved".into()));
+    assert!(missed.contains(&"RandomRegister::next: refused with 9".into()));
 }

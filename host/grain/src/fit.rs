@@ -93,7 +93,7 @@ pub fn solve_normal(
     order: usize,
 ) -> Result<Option<Vec<f64>>, Refusal> {
     // SAFETY: the pointers are to 25 rows of 25 and to 25 values, as the interface has it.
-    let found = unsafe { sys::grain_solve_normal(a.as_ptr(), b.as_ptr(), order) };
+    let found = unsafe { sys::grain_solve_normal(a.as_flattened().as_ptr(), b.as_ptr(), order) };
     accepted(found.refusal)?;
     let solution = found.solution;
     Ok(found

@@ -34,8 +34,10 @@ impl RandomRegister {
 
     /// Steps the register and gives its top `bits` bits, of which there are at most 16.
     pub fn next(&mut self, bits: u32) -> Result<u32, Refusal> {
-        // SAFETY: the pointer is to the state, which is lent alone.
-        let drawn = unsafe { sys::grain_random_next(&mut self.state, bits) };
+        let mut register = sys::Random { state: self.state };
+        // SAFETY: the pointer is to a register that nothing else holds.
+        let drawn = unsafe { sys::grain_random_next(&mut register, bits) };
+        self.state = register.state;
         accepted(drawn.refusal).map(|()| drawn.value)
     }
 }

@@ -1,7 +1,8 @@
 //! The C interface as `include/grain.h` declares it. A slice crosses as a pointer and its number of elements.
 //!
-//! A caller of these functions answers for the pointers: each is aligned, not null, and good for as many elements as the
-//! number beside it says; what is written overlaps nothing else. The safe functions of this crate see to that.
+//! A caller of these functions answers for the pointers: each is aligned and good for as many elements as the number
+//! beside it says, so that with 0 it may be null; what is written overlaps nothing else. The safe functions of this crate
+//! see to that.
 
 /// `grain_shape`
 #[repr(C)]
@@ -105,12 +106,28 @@ pub struct Fit {
     pub cr: [i32; 25],
 }
 
+/// `grain_random`
+#[repr(C)]
+#[derive(Debug, Clone, Copy)]
+pub struct Random {
+    pub state: u16,
+}
+
 /// `grain_draw`
 #[repr(C)]
 #[derive(Debug, Clone, Copy)]
 pub struct Draw {
     pub refusal: u32,
     pub value: u32,
+}
+
+/// `grain_stepped`
+#[repr(C)]
+#[derive(Debug, Clone, Copy)]
+pub struct Stepped {
+    pub refusal: u32,
+    pub value: u32,
+    pub after: Random,
 }
 
 /// Calls a function of this interface with numbers, slices and numbers. A slice goes as its pointer and its length; those
@@ -245,7 +262,7 @@ unsafe extern "C" {
 
     pub fn grain_quant_ar(x: f64) -> i32;
 
-    pub fn grain_solve_normal(a: *const [f64; 25], b: *const f64, order: usize) -> Solved;
+    pub fn grain_solve_normal(a: *const f64, b: *const f64, order: usize) -> Solved;
 
     pub fn grain_ar_positions(lag: usize) -> Positions;
 
@@ -268,5 +285,9 @@ unsafe extern "C" {
 
     pub fn grain_seed_for(order_hint: u32) -> u16;
 
-    pub fn grain_random_next(state: *mut u16, bits: u32) -> Draw;
+    pub fn grain_random_new(seed: u16) -> Random;
+
+    pub fn grain_random_next(r: *mut Random, bits: u32) -> Draw;
+
+    pub fn grain_random_step(r: Random, bits: u32) -> Stepped;
 }

@@ -16,7 +16,9 @@ fn sizes() {
     assert_eq!(size_of::<Solved>(), 216);
     assert_eq!(size_of::<Positions>(), 208);
     assert_eq!(size_of::<Fit>(), 312);
+    assert_eq!(size_of::<Random>(), 2);
     assert_eq!(size_of::<Draw>(), 8);
+    assert_eq!(size_of::<Stepped>(), 12);
 }
 
 #[test]
@@ -32,4 +34,5 @@ fn places() {
     assert_eq!(offset_of!(Fit, luma), 16);
     assert_eq!(offset_of!(Fit, cb), 112);
     assert_eq!(offset_of!(Fit, cr), 212);
+    assert_eq!(offset_of!(Stepped, after), 8);
 }

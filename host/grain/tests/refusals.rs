@@ -1,7 +1,6 @@
 //! Each question once, through the safe functions: the refusal that answers it, and destinations left as they were.
 
 use grain::*;
-use std::collections::HashSet;
 use std::num::NonZeroU32;
 
 const SHAPE: Shape = Shape::new(3, 2, 8, Format::Yuv420);
@@ -113,21 +112,6 @@ fn numbers_and_words() {
             format!("{} No: {number}", refusal.question())
         );
     }
-}
-
-/// The list at the head of include/grain.h, and the names here, are of the same numbers.
-#[test]
-fn numbers_of_the_header() {
-    let header = include_str!("../../../include/grain.h");
-    let listed = header.lines().filter_map(|line| {
-        let (number, question) = line.strip_prefix(" *   ")?.split_once("  ")?;
-        question.contains('?').then(|| number.parse().ok())?
-    });
-    let named = Refusal::ALL.iter().map(|refusal| refusal.number());
-    assert_eq!(
-        listed.collect::<HashSet<u32>>(),
-        named.collect::<HashSet<u32>>()
-    );
 }
 
 #[test]

@@ -31,16 +31,16 @@ pub struct Pair {
 fn is_up(kind: u64, column: u64, draw: u32) -> bool {
     match kind {
         4 | 10 | 13 => true,
-        6 | 11 => column % 2 == 0,
-        7 => column / 8 % 2 == 0,
-        8 => column / 16 % 2 == 0,
-        12 => 0x5a3c_96e1 / (1 + column % 31) % 2 == 0,
+        6 | 11 => column.is_multiple_of(2),
+        7 => (column / 8).is_multiple_of(2),
+        8 => (column / 16).is_multiple_of(2),
+        12 => (0x5a3c_96e1 / (1 + column % 31)).is_multiple_of(2),
         _ => draw < 0x8000_0000,
     }
 }
 
 fn size_of(kind: u64, top: u16, column: u64, draw: u32) -> u16 {
-    let rare = draw / 256 % 64 == 0;
+    let rare = (draw / 256).is_multiple_of(64);
     match kind {
         0 => (draw / 256) as u16 & (top >> 5),
         1 => (draw / 256) as u16 & top,

@@ -3,7 +3,7 @@ use crate::draws::{next, start};
 
 fn entry(kind: u64, r: usize, c: usize, draw: u32) -> f64 {
     let x = f64::from(draw / 256 % 256) - 128.0;
-    let rare = draw / 65536 % 16 == 0;
+    let rare = (draw / 65536).is_multiple_of(16);
     let product = (r as f64 + 1.0) * (c as f64 + 1.0);
     match kind {
         1 if r == c => 4096.0 + x,
@@ -11,7 +11,7 @@ fn entry(kind: u64, r: usize, c: usize, draw: u32) -> f64 {
         3 => (c % 5) as f64 + 1.0,
         4 if rare => f64::INFINITY,
         5 if r % 2 == c % 2 => 0.0,
-        6 if r % 2 == 0 => x * 1e306,
+        6 if r.is_multiple_of(2) => x * 1e306,
         6 => x / 1048576.0,
         7 if rare => f64::NAN,
         8 if r == c => x * 1e-10,

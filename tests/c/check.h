@@ -1,0 +1,75 @@
+/* What the tests have in common: comparisons that are counted, and planes. A comparison that fails is written with its
+ * line; a program's last line is 'NAME: N compared, M differ', and its status is 0 if M is. */
+#ifndef CHECK_H
+#define CHECK_H
+
+#include "grain.h"
+
+#include <stdio.h>
+#include <string.h>
+
+/* ---- Comparisons ---- */
+
+static int compared, differ;
+
+static inline void compare(int line, const char *what, const void *got, const void *want, size_t size)
+{
+    compared++;
+    if (memcmp(got, want, size) != 0) {
+        differ++;
+        printf("line %d: not so: %s\n", line, what);
+    }
+}
+
+static const char zeros[1024];
+
+/* whole numbers; doubles by their bits; the first elements of an array; all bytes of a field or of a plane */
+#define SAME(got, want) \
+    do { \
+        long long g_ = (got), w_ = (want); \
+        compare(__LINE__, #got " = " #want, &g_, &w_, sizeof g_); \
+    } while (0)
+#define SAME_F64(got, want) \
+    do { \
+        double g_ = (got), w_ = (want); \
+        compare(__LINE__, #got " = " #want, &g_, &w_, sizeof g_); \
+    } while (0)
+#define SAME_ALL(got, ...) \
+    do { \
+        __typeof__((got)[0]) w_[] = {__VA_ARGS__}; \
+        compare(__LINE__, #got " = " #__VA_ARGS__, got, w_, sizeof w_); \
+    } while (0)
+#define ZERO(field) compare(__LINE__, #field " = 0", &(field), zeros, sizeof(field))
+
+/* ---- Planes ---- */
+
+#define LENT(plane) (plane), sizeof(plane) / sizeof((plane)[0])
+#define NONE NULL, 0
+
+/* A source and a denoised copy with this noise. */
+static inline void samples(const int *noise, size_t n, uint16_t *src, uint16_t *den)
+{
+    for (size_t i = 0; i < n; i++) {
+        src[i] = (uint16_t)(512 + noise[i]);
+        den[i] = 512;
+    }
+}
+
+static inline void fill(uint16_t *plane, size_t n, uint16_t x)
+{
+    for (size_t i = 0; i < n; i++)
+        plane[i] = x;
+}
+
+static inline grain_shape shape(size_t width, size_t height, uint8_t depth, uint8_t format)
+{
+    return (grain_shape){width, height, depth, format};
+}
+
+static inline int ended(const char *name)
+{
+    printf("%s: %d compared, %d differ\n", name, compared, differ);
+    return differ != 0;
+}
+
+#endif
