@@ -10,11 +10,12 @@ use lib.Arith.{digits-lt}
 use lib.Dec.{eqb, lit≤, lit<}
 use lib.IntN.{ℤ, pos, negsuc, natAbs, _*ℤ_}
 use lib.ListN.{length, getD}
-use lib.Ieee.{binary64, div, le, ofInt, ofBits, round}
+use lib.Ieee.{binary64, div, le, ofInt, round}
 use mir.Syntax.{w64}
 use mir.Val.{toZ, ofZ}
 use mir.ValLaws.{toZ-ofZ}
 use Rattle.laws.specs.Constants.{four, sixteen}
+use Rattle.laws.proofs.Constants.{four-value, sixteen-value}
 use Rattle.laws.specs.Limits.{planeLimit, sampleLimit}
 use Rattle.laws.specs.Scaled.{ofScaled}
 use Rattle.laws.specs.Sums.{span}
@@ -45,12 +46,10 @@ held : (z : ℤ) → natAbs z ≤ 2 ^ 53 → toZ w64 (ofZ w64 z) ≡ z
 held z b = toZ-ofZ w64 z (sfits w64 z (lt-of-le-of-lt b (lit< tt)))
 
 pub in-sixteenths : (z : ℤ) → natAbs z ≤ 2 ^ 53 → div binary64 (ofInt binary64 (toZ w64 (ofZ w64 z))) sixteen ≡ ofScaled 4 z
-unfolding ofBits
-in-sixteenths z b = ap (λ (x : ℤ). div binary64 (ofInt binary64 x) sixteen) (held z b) ∙ divided 4 z sixteen b (refl, refl)
+in-sixteenths z b = ap (λ (x : ℤ). div binary64 (ofInt binary64 x) sixteen) (held z b) ∙ divided 4 z sixteen b sixteen-value
 
 pub in-quarters : (z : ℤ) → natAbs z ≤ 2 ^ 53 → div binary64 (ofInt binary64 (toZ w64 (ofZ w64 z))) four ≡ ofScaled 2 z
-unfolding ofBits
-in-quarters z b = ap (λ (x : ℤ). div binary64 (ofInt binary64 x) four) (held z b) ∙ divided 2 z four b (refl, refl)
+in-quarters z b = ap (λ (x : ℤ). div binary64 (ofInt binary64 x) four) (held z b) ∙ divided 2 z four b four-value
 
 nothing : (z : ℤ) → natAbs z ≤ 0 → z ≡ pos 0
 nothing (pos n) h = ap pos (le-antisymm h zero-le)
@@ -58,7 +57,7 @@ nothing (negsuc n) h = absurd (not-suc-le-zero h)
 
 -- no squares are at most 1e-9
 flat : (products : ℤ) → tapOf products (pos 0) ≡ pos 0
-unfolding tapOf ofScaled le ofBits round
+unfolding tapOf ofScaled le round
 flat products = refl
 
 -- ---- lag 0
