@@ -2,8 +2,7 @@
 use mathlib.Core.Path.{_≡_, refl, sym, ap, _∙_}
 use mathlib.Core.List.{List, [], _∷_, _++_, map}
 use Prim.Native.Nat.{ℕ, zero, suc, _+_, _-_, _*_, _≤_, _<_, zero-le}
-use native.Mathlib.Nat.{le-step, le-trans, le-of-eq, lt-suc-self, zero-add, add-zero, add-suc, add-comm, sub-zero, add-le-add, suc-mul}
-use native.Mathlib.Numerals.{add-one}
+use native.Mathlib.Nat.{le-step, le-trans, le-of-eq, lt-suc-self, zero-add, add-comm, sub-zero, add-le-add, suc-mul}
 use lib.IntN.{ℤ, pos, negℤ, natAbs, _+ℤ_, _-ℤ_, _*ℤ_, +ℤ-idl, +ℤ-idr, +ℤ-assoc, +ℤ-comm, +ℤ-negℤ-cancel, *ℤ-zero, zero-*ℤ}
 use lib.Signed.{_≤ℤ_, ≤ℤ-refl}
 use Rattle.laws.specs.Sums.{total, sumTo, span, sumZ}

@@ -5,7 +5,7 @@ use Prim.Native.Nat.{ℕ, _+_, _-_, _*_, _<_, _≤_, zero-le}
 use native.Mathlib.Nat.{add-zero, add-assoc, mul-comm, sub-zero}
 use native.Mathlib.Omega.{arith}
 use lib.Dec.{le→leb, lt→ltb}
-use lib.IntN.{ℤ, pos, _+ℤ_, _*ℤ_}
+use lib.IntN.{pos, _+ℤ_, _*ℤ_}
 use lib.Signed.{leZ-yes, ltZ-yes}
 use lib.Ieee.{Float, binary64, add, mul, ofBits}
 use Rattle.laws.specs.Loop.{loop}

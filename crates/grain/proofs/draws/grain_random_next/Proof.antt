@@ -1,6 +1,5 @@
 -- `grain::draws::grain_random_next`: the record of the draw, and the state of the register after it. Assumes nothing.
 use mathlib.Core.Path.{_∙_, ap}
-use Prim.Native.Nat.{ℕ}
 use borrow.Author.Needs.{needs}
 use Rattle.grain.specs.Records.{ofNext}
 use Rattle.grain.specs.declared.draws.DrawRecord.{DrawRecord}

@@ -1,5 +1,4 @@
 -- `profile::planes::plane_sigma16` meets its contract: a refusal, or the figure of a profile with one bin. Assumes nothing.
-use Prim.Native.Nat.{_-_}
 use borrow.Author.Needs.{needs}
 use Rattle.profile.proofs.Answered.{sigma-refused, sigma-accepted, sigma-seen}
 use Rattle.profile.proofs.planes.plane_sigma16.Statement.{statement}
