@@ -23,7 +23,7 @@ visitRows lag (deltaRow ∷ deltaRows) = map (λ deltaCol. (deltaRow, deltaCol))
 unfoldable pub visits : ℕ → List Delta
 visits lag = visitRows lag (fromMinus lag (lag + 1))
 
--- the sample itself, which stands in the last row
+-- the sample itself, which stands in the last row; natAbs is 0 of 0 alone
 abbrev pub isSample : Delta → Bool
 isSample (deltaRow, deltaCol) = eqb (natAbs deltaRow) 0 && eqb (natAbs deltaCol) 0
 
