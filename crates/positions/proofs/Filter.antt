@@ -8,6 +8,7 @@ use native.Mathlib.Omega.{arith}
 use borrow.Author.Tests.{lt-ltb}
 use lib.IntN.{ℤ, pos, _+ℤ_, _-ℤ_, _*ℤ_, +ℤ-idl, +ℤ-idr, +ℤ-assoc}
 use lib.ListN.{length, getD}
+use Rattle.laws.specs.Limits.{lagLimit, neighbourLimit, orderLimit}
 use Rattle.laws.specs.Sums.{total, sumTo}
 use Rattle.laws.specs.Table.{tabulate}
 use Rattle.laws.proofs.Sums.{sum-ext}
@@ -103,12 +104,12 @@ module _ (lag y x : ℕ) (rows : lag ≤ y) (columns : lag ≤ x) where
           tap-at = zero-add (length (walk lag)) ∙ luma-number lag
 
 -- ---- at most how many
-pub luma-most : (lag : ℕ) → lag ≤ 3 → numPosLuma lag ≤ 24
+pub luma-most : (lag : ℕ) → lag ≤ lagLimit → numPosLuma lag ≤ neighbourLimit
 luma-most lag h = neighbours-le h
 
 -- with the luma tap
 pub chroma-number : (points lag : ℕ) → 0 < points → numPosChroma points lag ≡ length (walk lag) + 1
 chroma-number points lag h = rw (lt-ltb 0 points h, luma-number lag)
 
-pub chroma-most : (points lag : ℕ) → 0 < points → lag ≤ 3 → numPosChroma points lag ≤ 25
+pub chroma-most : (points lag : ℕ) → 0 < points → lag ≤ lagLimit → numPosChroma points lag ≤ orderLimit
 chroma-most points lag h l = rw (lt-ltb 0 points h) (omega (arith, neighbours-le l))
