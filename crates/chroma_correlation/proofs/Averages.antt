@@ -3,7 +3,7 @@ use mathlib.Core.Path.{_≡_, refl, sym, _∙_, ap}
 use mathlib.Core.Bool.{Bool, true, false}
 use mathlib.Core.List.{List}
 use Prim.Native.Nat.{ℕ, _*_, _^_, _≤_, _<_, zero-le}
-use native.Mathlib.Nat.{le-trans, le-of-eq, le-antisymm, lt-of-lt-of-le, lt-of-le-of-lt, not-suc-le-zero, mul-comm, sub-zero}
+use native.Mathlib.Nat.{le-trans, le-of-eq, le-antisymm, lt-of-lt-of-le, lt-of-le-of-lt, not-suc-le-zero, mul-comm}
 use native.Mathlib.Omega.{arith}
 use borrow.Author.Tests.{eqb-true}
 use lib.Arith.{digits-lt}
@@ -15,13 +15,12 @@ use mir.Syntax.{w64}
 use mir.Val.{toZ, ofZ}
 use mir.ValLaws.{toZ-ofZ}
 use Rattle.laws.specs.Constants.{four, sixteen}
+use Rattle.laws.proofs.Sums.{spans-zero}
 use Rattle.laws.proofs.Constants.{four-value, sixteen-value}
 use Rattle.laws.specs.Limits.{planeLimit, sampleLimit}
 use Rattle.laws.specs.Scaled.{ofScaled}
-use Rattle.laws.specs.Sums.{span}
 use Rattle.laws.specs.Table.{tabulate}
 use Rattle.laws.proofs.Is.{sfits}
-use Rattle.laws.proofs.Sums.{sum-ext, span-zero}
 use Rattle.laws.proofs.Table.{getD-tabulate}
 use Rattle.frame.specs.declared.view.Geometry.{Geometry}
 use Rattle.frame.proofs.Viewed.{viewed-length}
@@ -68,10 +67,7 @@ module _ (w h : ℕ) (f q : Picture) where
   -- the window is the plane
   window-whole : windowSum w h 0 f q ≡ sumOver h w (λ r c. f r c *ℤ q r c)
   unfolding windowSum
-  window-whole =
-      (λ i. span (λ r. span (λ c. f r c *ℤ q r c) 0 (sub-zero w i)) 0 (sub-zero h i))
-      ∙ span-zero (λ r. span (λ c. f r c *ℤ q r c) 0 w) h
-      ∙ sum-ext _ _ h (λ r l. span-zero (λ c. f r c *ℤ q r c) w)
+  window-whole = spans-zero (λ r c. f r c *ℤ q r c) h w
 
   -- the only factor is the sample
   sample-tap : tapEntry f q w h 0 0 ≡ windowSum w h 0 q f

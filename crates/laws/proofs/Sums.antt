@@ -20,6 +20,13 @@ sum-ext f g n h = total-ext _+ℤ_ (pos 0) f g n h
 pub span-zero : (g : ℕ → ℤ) (n : ℕ) → span g 0 n ≡ sumTo g n
 span-zero g n = sum-ext (λ i. g (0 + i)) g n (λ i l. ap g (zero-add i))
 
+-- rows and columns from 0 on
+pub spans-zero : (g : ℕ → ℕ → ℤ) (h w : ℕ) → span (λ r. span (g r) 0 (w - 0)) 0 (h - 0) ≡ sumTo (λ r. sumTo (g r) w) h
+spans-zero g h w =
+    (λ i. span (λ r. span (g r) 0 (sub-zero w i)) 0 (sub-zero h i))
+    ∙ span-zero (λ r. span (g r) 0 w) h
+    ∙ sum-ext (λ r. span (g r) 0 w) (λ r. sumTo (g r) w) h (λ r l. span-zero (g r) w)
+
 pub sum-split : (g : ℕ → ℤ) (a n : ℕ) → sumTo g (a + n) ≡ sumTo g a +ℤ span g a n
 sum-split g a n = total-split _+ℤ_ (pos 0) +ℤ-assoc +ℤ-idr g a n
 
