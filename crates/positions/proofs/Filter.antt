@@ -6,6 +6,7 @@ use Prim.Native.Nat.{ℕ, zero, suc, _+_, _-_, _*_, _/_, _%_, _≤_, _<_}
 use native.Mathlib.Nat.{add-zero, zero-add}
 use native.Mathlib.Omega.{arith}
 use borrow.Author.Tests.{lt-ltb}
+use lib.Dec.{ltb}
 use lib.IntN.{ℤ, pos, _+ℤ_, _-ℤ_, _*ℤ_, +ℤ-idl, +ℤ-idr, +ℤ-assoc}
 use lib.ListN.{length, getD}
 use Rattle.laws.specs.Limits.{lagLimit, neighbourLimit, orderLimit}
@@ -93,7 +94,7 @@ module _ (lag y x : ℕ) (rows : lag ≤ y) (columns : lag ≤ x) where
 
       pub chroma-filter-sum : chromaFiltered points plus128 grain luma y x 0 (visits lag)
           ≡ sumTo (λ i. coefficientOf (plus128 i) *ℤ grain (pos (y - lag + i / side lag)) (pos (x - lag + i % side lag))) (numPosLuma lag)
-          +ℤ tapped points plus128 luma (numPosLuma lag)
+          +ℤ cond (ltb 0 points) (coefficientOf (plus128 (numPosLuma lag)) *ℤ luma) (pos 0)
       unfolding walk
       chroma-filter-sum = split ∙ (λ t. filter-sum t +ℤ tapped points plus128 luma (tap-at t))
         where
