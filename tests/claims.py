@@ -7,7 +7,7 @@ oracle/, host/ or include/ is a path of the repository, with or without a NAME t
 Every function that a crate shows to other crates must be cited by name: each `pub fn` of its lib.rt and of the modules
 that lib.rt declares `pub mod`, each that lib.rt names in a `pub use`, each `pub extern "C" fn`, and the public methods of
 the types that it shows likewise; and each states what it returns.
-The section CALLS has a row for each public call, with two must-fail edits at least; every function of another crate that
+The tables of the section CALLS have a row for each public call, with two must-fail edits at least; every function of another crate that
 the crate `grain` calls has one. The section NEEDS lists the functions with a `requires`, a row for each crate: exactly
 those that have one. None of them is a public call, stands in `grain`, or is a method of a type that a crate shows.
 """
@@ -70,10 +70,10 @@ def having(clause, texts):
 
 
 def rows(text, heading):
-    """The cells of each row of the table in a section, below the table's head."""
-    section = text.partition(heading + '\n')[2].partition('\n## ')[0]
-    lines = [line for line in section.split('\n') if line.startswith('| ')]
-    return [[cell.strip() for cell in line.strip('|').split('|')] for line in lines[1:]]
+    """The cells of each row of the tables in a section, below each table's head."""
+    lines = text.partition(heading + '\n')[2].partition('\n## ')[0].split('\n')
+    found = [line for line, after in zip(lines, lines[1:] + ['']) if line.startswith('| ') and not after.startswith('|---')]
+    return [[cell.strip() for cell in line.strip('|').split('|')] for line in found]
 
 
 def preconditions(crates, text):
