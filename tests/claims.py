@@ -10,6 +10,7 @@ the types that it shows likewise; and each states what it returns.
 The tables of the section CALLS have a row for each public call, with two must-fail edits at least; every function of another crate that
 the crate `grain` calls has one. The section NEEDS lists the functions with a `requires`, a row for each crate: exactly
 those that have one. None of them is a public call, stands in `grain`, or is a method of a type that a crate shows.
+A must-fail edit's name begins with what it changes: `code_`, `promise_` (a contract) or `definition_` (a text in specs/).
 """
 import pathlib
 import re
@@ -104,6 +105,27 @@ def preconditions(crates, text):
             yield f'{name} of {crate.name} is a method of a public type with a `requires`'
 
 
+def kind(path, line):
+    """What an edit changes that replaces this text in this file of a crate."""
+    if path.parent.name == 'specs':
+        return 'definition'
+    changed = [full for full in path.read_text().split('\n') if line in full] if path.is_file() else []
+    return 'promise' if any(re.match(r'\s*(?:ensures|requires) ', full) for full in changed) else 'code'
+
+
+def names(root):
+    """What is wrong with the names of must-fail edits, a line each."""
+    for edit in sorted(root.glob('crates/*/must-fail/*.edit')):
+        path, kinds = None, set()
+        for line in edit.read_text().split('\n'):
+            if line.startswith('file: '):
+                path = edit.parent.parent / line.removeprefix('file: ').strip()
+            elif line.startswith('old: '):
+                kinds.add(kind(path, line.removeprefix('old: ')))
+        if len(kinds) != 1 or not edit.name.startswith(f'{min(kinds)}_'):
+            yield f'{edit.relative_to(root)}: the name does not begin with what it changes, {" and ".join(sorted(kinds))}'
+
+
 def citations(text):
     for line, content in enumerate(text.split('\n'), 1):
         for match in CITATION.finditer(content):
@@ -142,6 +164,7 @@ def problems(root):
     if count == 0:
         found.append('docs/CLAIMS.md: no citation found')
     found.extend(preconditions(crates, text))
+    found.extend(names(root))
     return found, count
 
 
