@@ -7,9 +7,10 @@ oracle/, host/ or include/ is a path of the repository, with or without a NAME t
 Every function that a crate shows to other crates must be cited by name: each `pub fn` of its lib.rt and of the modules
 that lib.rt declares `pub mod`, each that lib.rt names in a `pub use`, each `pub extern "C" fn`, and the public methods of
 the types that it shows likewise; and each states what it returns.
-The section CALLS has a row for each public call, with two must-fail edits at least; every function of another crate that
+The tables of the section CALLS have a row for each public call, with two must-fail edits at least; every function of another crate that
 the crate `grain` calls has one. The section NEEDS lists the functions with a `requires`, a row for each crate: exactly
 those that have one. None of them is a public call, stands in `grain`, or is a method of a type that a crate shows.
+A must-fail edit's name begins with what it changes: `code_`, `promise_` (a contract) or `definition_` (a text in specs/).
 """
 import pathlib
 import re
@@ -70,10 +71,10 @@ def having(clause, texts):
 
 
 def rows(text, heading):
-    """The cells of each row of the table in a section, below the table's head."""
-    section = text.partition(heading + '\n')[2].partition('\n## ')[0]
-    lines = [line for line in section.split('\n') if line.startswith('| ')]
-    return [[cell.strip() for cell in line.strip('|').split('|')] for line in lines[1:]]
+    """The cells of each row of the tables in a section, below each table's head."""
+    lines = text.partition(heading + '\n')[2].partition('\n## ')[0].split('\n')
+    found = [line for line, after in zip(lines, lines[1:] + ['']) if line.startswith('| ') and not after.startswith('|---')]
+    return [[cell.strip() for cell in line.strip('|').split('|')] for line in found]
 
 
 def preconditions(crates, text):
@@ -102,6 +103,27 @@ def preconditions(crates, text):
     for crate in crates:
         for name in having('requires', crate.methods):
             yield f'{name} of {crate.name} is a method of a public type with a `requires`'
+
+
+def kind(path, line):
+    """What an edit changes that replaces this text in this file of a crate."""
+    if path.parent.name == 'specs':
+        return 'definition'
+    changed = [full for full in path.read_text().split('\n') if line in full] if path.is_file() else []
+    return 'promise' if any(re.match(r'\s*(?:ensures|requires) ', full) for full in changed) else 'code'
+
+
+def names(root):
+    """What is wrong with the names of must-fail edits, a line each."""
+    for edit in sorted(root.glob('crates/*/must-fail/*.edit')):
+        path, kinds = None, set()
+        for line in edit.read_text().split('\n'):
+            if line.startswith('file: '):
+                path = edit.parent.parent / line.removeprefix('file: ').strip()
+            elif line.startswith('old: '):
+                kinds.add(kind(path, line.removeprefix('old: ')))
+        if len(kinds) != 1 or not edit.name.startswith(f'{min(kinds)}_'):
+            yield f'{edit.relative_to(root)}: the name does not begin with what it changes, {" and ".join(sorted(kinds))}'
 
 
 def citations(text):
@@ -142,6 +164,7 @@ def problems(root):
     if count == 0:
         found.append('docs/CLAIMS.md: no citation found')
     found.extend(preconditions(crates, text))
+    found.extend(names(root))
     return found, count
 
 

@@ -91,7 +91,7 @@ TABLES = '''
 
 | call | a wrong program | another |
 |---|---|---|
-| `one/src/lib.rt:bump` | stays: `one/must-fail/stays.edit` | twice: `one/must-fail/twice.edit` |
+| `one/src/lib.rt:bump` | stays: `one/must-fail/code_stays.edit` | twice: `one/must-fail/promise_twice.edit` |
 
 ## Functions with a `requires`
 
@@ -105,8 +105,9 @@ FILES = {
     'crates/one/src/lib.rt': CODE,
     'crates/one/src/inner.rt': INNER,
     'crates/one/specs/One.antt': SPEC,
-    'crates/one/must-fail/stays.edit': '',
-    'crates/one/must-fail/twice.edit': '',
+    'crates/one/must-fail/code_stays.edit': 'file: src/lib.rt\nold: x + 1\nnew: x + 0\n',
+    'crates/one/must-fail/promise_twice.edit': 'file: src/lib.rt\nold: bumped x\nnew: bumped (bumped x)\n',
+    'crates/one/must-fail/definition_by_two.edit': 'file: specs/One.antt\nold: x + 1\nnew: x + 2\n',
     'crates/grain/src/lib.rt': GRAIN,
 }
 
@@ -169,7 +170,15 @@ class Claims(unittest.TestCase):
                 self.assertEqual(len(self.found(PUBLIC, listed, **{path: text + METHOD % head})), wrong, (head, path))
 
     def test_call_with_one_wrong_program(self):
-        self.assertEqual(len(self.found(PUBLIC, TABLES.replace('twice.edit', 'stays.edit'))), 1)
+        self.assertEqual(len(self.found(PUBLIC, TABLES.replace('promise_twice.edit', 'code_stays.edit'))), 1)
+
+    def test_call_in_a_second_table(self):
+        second = TABLES.replace('\n## Functions', '\n| call | a wrong promise | another |\n|---|---|---|\n| `one/src/inner.rt:shown` | `one/must-fail/code_stays.edit` | |\n\n## Functions')
+        self.assertEqual(len(self.found(PUBLIC, second)), 1)
+
+    def test_edit_named_for_something_else(self):
+        for name, text in (('code_by_two', 'specs/One.antt\nold: x + 1'), ('definition_stays', 'src/lib.rt\nold: x + 1'), ('code_twice', 'src/lib.rt\nold: bumped x'), ('stays', 'src/lib.rt\nold: x + 1')):
+            self.assertEqual(len(self.found(PUBLIC, **{f'crates/one/must-fail/{name}.edit': f'file: {text}\n'})), 1, name)
 
     def test_call_without_a_row(self):
         self.assertEqual(len(self.found(PUBLIC, TABLES.replace('`one/src/lib.rt:bump` |', '`one/src/inner.rt:shown` |'))), 1)

@@ -3,24 +3,24 @@ use mathlib.Core.Path.{_≡_, refl, sym, _∙_, ap}
 use mathlib.Core.Bool.{Bool, true, false}
 use mathlib.Core.List.{List}
 use Prim.Native.Nat.{ℕ, _*_, _^_, _≤_, _<_, zero-le}
-use native.Mathlib.Nat.{le-trans, le-of-eq, le-antisymm, lt-of-lt-of-le, lt-of-le-of-lt, not-suc-le-zero, mul-comm, sub-zero}
+use native.Mathlib.Nat.{le-trans, le-of-eq, le-antisymm, lt-of-lt-of-le, lt-of-le-of-lt, not-suc-le-zero, mul-comm}
 use native.Mathlib.Omega.{arith}
 use borrow.Author.Tests.{eqb-true}
 use lib.Arith.{digits-lt}
 use lib.Dec.{eqb, lit≤, lit<}
 use lib.IntN.{ℤ, pos, negsuc, natAbs, _*ℤ_}
 use lib.ListN.{length, getD}
-use lib.Ieee.{binary64, div, le, ofInt, ofBits, round}
+use lib.Ieee.{binary64, div, le, ofInt, round}
 use mir.Syntax.{w64}
 use mir.Val.{toZ, ofZ}
 use mir.ValLaws.{toZ-ofZ}
 use Rattle.laws.specs.Constants.{four, sixteen}
+use Rattle.laws.proofs.Sums.{spans-zero}
+use Rattle.laws.proofs.Constants.{four-value, sixteen-value}
 use Rattle.laws.specs.Limits.{planeLimit, sampleLimit}
 use Rattle.laws.specs.Scaled.{ofScaled}
-use Rattle.laws.specs.Sums.{span}
 use Rattle.laws.specs.Table.{tabulate}
 use Rattle.laws.proofs.Is.{sfits}
-use Rattle.laws.proofs.Sums.{sum-ext, span-zero}
 use Rattle.laws.proofs.Table.{getD-tabulate}
 use Rattle.frame.specs.declared.view.Geometry.{Geometry}
 use Rattle.frame.proofs.Viewed.{viewed-length}
@@ -45,12 +45,10 @@ held : (z : ℤ) → natAbs z ≤ 2 ^ 53 → toZ w64 (ofZ w64 z) ≡ z
 held z b = toZ-ofZ w64 z (sfits w64 z (lt-of-le-of-lt b (lit< tt)))
 
 pub in-sixteenths : (z : ℤ) → natAbs z ≤ 2 ^ 53 → div binary64 (ofInt binary64 (toZ w64 (ofZ w64 z))) sixteen ≡ ofScaled 4 z
-unfolding ofBits
-in-sixteenths z b = ap (λ (x : ℤ). div binary64 (ofInt binary64 x) sixteen) (held z b) ∙ divided 4 z sixteen b (refl, refl)
+in-sixteenths z b = ap (λ (x : ℤ). div binary64 (ofInt binary64 x) sixteen) (held z b) ∙ divided 4 z sixteen b sixteen-value
 
 pub in-quarters : (z : ℤ) → natAbs z ≤ 2 ^ 53 → div binary64 (ofInt binary64 (toZ w64 (ofZ w64 z))) four ≡ ofScaled 2 z
-unfolding ofBits
-in-quarters z b = ap (λ (x : ℤ). div binary64 (ofInt binary64 x) four) (held z b) ∙ divided 2 z four b (refl, refl)
+in-quarters z b = ap (λ (x : ℤ). div binary64 (ofInt binary64 x) four) (held z b) ∙ divided 2 z four b four-value
 
 nothing : (z : ℤ) → natAbs z ≤ 0 → z ≡ pos 0
 nothing (pos n) h = ap pos (le-antisymm h zero-le)
@@ -58,7 +56,7 @@ nothing (negsuc n) h = absurd (not-suc-le-zero h)
 
 -- no squares are at most 1e-9
 flat : (products : ℤ) → tapOf products (pos 0) ≡ pos 0
-unfolding tapOf ofScaled le ofBits round
+unfolding tapOf ofScaled le round
 flat products = refl
 
 -- ---- lag 0
@@ -69,10 +67,7 @@ module _ (w h : ℕ) (f q : Picture) where
   -- the window is the plane
   window-whole : windowSum w h 0 f q ≡ sumOver h w (λ r c. f r c *ℤ q r c)
   unfolding windowSum
-  window-whole =
-      (λ i. span (λ r. span (λ c. f r c *ℤ q r c) 0 (sub-zero w i)) 0 (sub-zero h i))
-      ∙ span-zero (λ r. span (λ c. f r c *ℤ q r c) 0 w) h
-      ∙ sum-ext _ _ h (λ r l. span-zero (λ c. f r c *ℤ q r c) w)
+  window-whole = spans-zero (λ r c. f r c *ℤ q r c) h w
 
   -- the only factor is the sample
   sample-tap : tapEntry f q w h 0 0 ≡ windowSum w h 0 q f

@@ -1,11 +1,11 @@
--- The outcome of a call whose answer is known: refused, the destinations are as they were; accepted, they are denoised. Assumes nothing.
+-- The outcome of a call whose answer is known: refused, the destinations are as they were; accepted, they are denoised. And what an accepted outcome leaves. Assumes nothing.
 use mathlib.Core.Path.{_≡_}
 use mathlib.Core.List.{List}
 use Prim.Native.Nat.{ℕ}
 use lib.ListN.{length}
 use Rattle.frame.specs.declared.Shape.{Shape}
 use Rattle.frame.specs.Calls.{planeRefusal, denoiseFrameRefusal}
-use Rattle.frame.proofs.Refusal.{refused}
+use Rattle.frame.proofs.Refusal.{refused, granted}
 use Rattle.denoise.specs.Denoise.{denoised}
 use Rattle.denoise.specs.Calls.{planeOutcome, Frame, denoisedFrame, frameOutcome}
 
@@ -26,3 +26,11 @@ module _ (f : Shape) (s d : Frame) (n : ℕ) (e : n ≡ denoiseFrameRefusal f (s
   pub frame-accepted : n ≡ 0 → _≡_ {A = ℕ × Frame} (0, denoisedFrame f s) (frameOutcome f s d)
   unfolding frameOutcome
   frame-accepted z = rw (← e, z)
+
+pub plane-left : (s d : List ℕ) (w h : ℕ) → planeOutcome s d w h .0 ≡ 0 → planeOutcome s d w h .1 ≡ denoised s w h
+unfolding planeOutcome
+plane-left s d w h e = granted _ (denoised s w h) d e
+
+pub frame-left : (f : Shape) (s d : Frame) → frameOutcome f s d .0 ≡ 0 → frameOutcome f s d .1 ≡ denoisedFrame f s
+unfolding frameOutcome
+frame-left f s d e = granted _ (denoisedFrame f s) d e

@@ -5,9 +5,10 @@ use Prim.Native.Nat.{ℕ, _^_, _≤_, _<_}
 use native.Mathlib.Omega.{arith}
 use lib.Dec.{ltb}
 use lib.IntN.{ℤ, natAbs}
-use lib.Ieee.{Float, binary64, div, ofInt, ofBits}
+use lib.Ieee.{Float, binary64, div, ofInt}
 use borrow.Author.Tests.{ltb-true, ltb-false, lt-ltb}
 use Rattle.laws.specs.Constants.{four}
+use Rattle.laws.proofs.Constants.{four-value}
 use Rattle.laws.specs.Scaled.{ofScaled}
 use Rattle.laws.specs.Limits.{planeLimit, sampleLimit}
 use Rattle.noise.specs.Noise.{Pair, noiseOf}
@@ -67,12 +68,12 @@ module _ (plane : Pair) (lag : ℕ) (S : Limited planeLimit sampleLimit (own pla
           → ((i : ℕ) → i < factors lag → natAbs (exactTap i) ≤ 2 ^ 53)
           → squares ≡ ofScaled 4 (tapSquare (quarters l) (plane .width) (plane .height) lag)
           → exactFit entries taps squares lag (factors lag) ≡ coefficientsOf (solvedFit plane lag (withTap l plane lag) (factors lag))
-      unfolding exactFit solvedFit cellSum rightSum ofBits
+      unfolding exactFit solvedFit cellSum rightSum
       chroma-exact taps squares e small d =
           λ t. coefficientsOf (solvedOf (matrix-same (cellSum entries taps squares lag) _ (factors lag) cells t) (right-same (rightSum entries taps lag) _ (factors lag) values t) (factors lag))
         where
           tap-read : (i : ℕ) → i < factors lag → div binary64 (ofInt binary64 (taps i)) four ≡ ofScaled 2 (exactTap i)
-          tap-read i k = ap (λ (z : ℤ). div binary64 (ofInt binary64 z) four) (e i k) ∙ divided 2 _ four (small i k) (refl, refl)
+          tap-read i k = ap (λ (z : ℤ). div binary64 (ofInt binary64 z) four) (e i k) ∙ divided 2 _ four (small i k) four-value
 
           cells : (i j : ℕ) → i ≤ j → j < factors lag → cellSum entries taps squares lag i j ≡ fitF plane lag (withTap l plane lag i) (withTap l plane lag j)
           cells i j a b = go (ltb i n) (ltb j n) refl refl

@@ -7,7 +7,7 @@ use native.Mathlib.Nat.{le-of-eq, lt-of-lt-of-le, eq-or-lt-of-le, div-lt-iff-lt-
 use native.Mathlib.Omega.{arith}
 use lib.Arith.{digits-div, digits-mod}
 use lib.Dec.{ltb, le→leb}
-use lib.IntN.{ℤ, pos, negsuc, negℤ, natAbs, _+ℤ_, _-ℤ_, +ℤ-assoc, +ℤ-invr, +ℤ-negℤ-cancel}
+use lib.IntN.{pos, negsuc, negℤ, natAbs, _+ℤ_, _-ℤ_, +ℤ-assoc, +ℤ-invr, +ℤ-negℤ-cancel}
 use lib.ListN.{getD, List·getD-eq-default}
 use lib.Signed.{_≤ℤ_, leZ-yes}
 use Rattle.noise.specs.Noise.{Pair, noiseOf}

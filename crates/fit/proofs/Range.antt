@@ -7,7 +7,7 @@ use native.Mathlib.Nat.{lt-of-not-le}
 use native.Mathlib.Decide.{decLe}
 use lib.Dec.{lit<}
 use lib.IntN.{ℤ, pos}
-use lib.ListN.{getD, replicate, List·getD-eq-default}
+use lib.ListN.{replicate, List·getD-eq-default}
 use Rattle.laws.specs.Table.{tabulate}
 use Rattle.laws.proofs.Table.{getD-tabulate, length-tabulate}
 use Rattle.frame.specs.declared.Shape.{Shape}

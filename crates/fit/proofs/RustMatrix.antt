@@ -12,7 +12,6 @@ use Rattle.laws.specs.Table.{tabulate}
 use Rattle.laws.proofs.Table.{getD-tabulate, length-tabulate}
 use Rattle.noise.specs.Noise.{Pair}
 use Rattle.noise.specs.Products.{Factor, own}
-use Rattle.solve.specs.Elimination.{Row}
 use Rattle.solve.specs.Answer.{solvedOf}
 use Rattle.solve.specs.Words.{Alike, RowAlike}
 use Rattle.solve.proofs.Used.{used-alone}

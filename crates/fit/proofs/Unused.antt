@@ -6,9 +6,9 @@ use Prim.Native.Nat.{ℕ, _≤_}
 use native.Mathlib.Nat.{lt-of-lt-of-le}
 use native.Mathlib.Omega.{arith}
 use lib.Dec.{lit≤}
-use lib.IntN.{ℤ, pos}
+use lib.IntN.{pos}
 use lib.ListN.{getD, getD-replicate}
-use lib.Ieee.{mul, ofBits, toSigned}
+use lib.Ieee.{mul, round, ofBits, toSigned}
 use Rattle.laws.specs.Scaled.{plusZero}
 use Rattle.laws.proofs.Table.{getD-tabulate}
 use Rattle.float.specs.Steps.{quantAr}
@@ -27,7 +27,7 @@ use Rattle.fit.specs.Words.{ZeroFrom}
 use Rattle.fit.proofs.EachFit.{luma-case, chroma-case, answer-case}
 
 quant-zero : quantAr plusZero ≡ pos 0
-unfolding quantAr mul ofBits toSigned
+unfolding quantAr mul round ofBits toSigned
 quant-zero = refl
 
 zeros-zero : (p m : ℕ) → m ≤ 25 → ZeroFrom p m zeros

@@ -1,6 +1,6 @@
 -- Coefficients that are all 0: as the loop looks at them, one by one. Assumes nothing.
-use mathlib.Core.Path.{_≡_, refl, sym, ap, _∙_}
-use mathlib.Core.Bool.{Bool, true, false, _&&_}
+use mathlib.Core.Path.{_≡_, sym, ap, _∙_}
+use mathlib.Core.Bool.{true, false, _&&_, and-false}
 use mathlib.Core.List.{List}
 use Prim.Native.Nat.{ℕ, zero, suc, _+_, _-_, _≤_, _<_}
 use native.Mathlib.Nat.{add-zero, add-suc}
@@ -24,10 +24,6 @@ unfolding allZero
 stays x m zero h = ap (allZero x) (add-zero m) ∙ h
 stays x m (suc k) h = ap (allZero x) (add-suc m k) ∙ rw (stays x m k h)
 
-none-of : (b : Bool) → (b && false) ≡ false
-none-of true = refl
-none-of false = refl
-
 pub no-size : (z : ℤ) → natAbs z ≡ 0 → z ≡ pos 0
 no-size (pos n) e = ap pos e
 no-size (negsuc n) e = absurd (omega arith)
@@ -38,7 +34,7 @@ module _ (x : List ℤ) (i : ℕ) where
   not-all n l h =
       let e : i + 1 + (n - (i + 1)) ≡ n = omega arith in
       let d : eqb (natAbs (getD x i (pos 0))) 0 ≡ false = ne-eqb _ 0 (λ z. h (ap (ofZ w32) (no-size (getD x i (pos 0)) z))) in
-      sym (ap (allZero x) (sym e) ∙ stays x (i + 1) (n - (i + 1)) (one-more x i ∙ rw d (none-of (allZero x i))))
+      sym (ap (allZero x) (sym e) ∙ stays x (i + 1) (n - (i + 1)) (one-more x i ∙ rw d (and-false (allZero x i))))
 
   pub still-all : allZero x i ≡ true → SFits w32 (getD x i (pos 0)) → ofZ w32 (getD x i (pos 0)) ≡ 0 → allZero x (i + 1) ≡ true
   still-all h f e =

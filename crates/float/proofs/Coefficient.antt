@@ -9,7 +9,7 @@ use native.Mathlib.Omega.{arith}
 use mathlib.Core.Bool.{Bool, true, false, cond}
 use lib.IntN.{ℤ, pos, negsuc, negℤ, _+ℤ_, _-ℤ_, +ℤ-comm, +ℤ-negℤ-cancel, pos-+ℤ-pos}
 use lib.Dec.{T, lit<, lit≤}
-use lib.Ieee.{Float, nan, inf, fin, binary64, up, down, mul, fits, ofBits, toSigned}
+use lib.Ieee.{Float, nan, inf, fin, binary64, up, down, mul, fits, round, toSigned}
 use lib.Ieee.Fits.{down-pos, mul-fits}
 use borrow.Author.Tests.{lt-ltb, le-ltb}
 use Rattle.laws.specs.Constants.{sixtyFour}
@@ -116,7 +116,7 @@ module _ (s : Bool) (m : ℕ) (e : ℤ) (t : T (fits binary64 (fin s m e))) wher
           top n l = omega arith
 
 finite-steps : (s : Bool) (m : ℕ) (e : ℤ) → T (fits binary64 (fin s m e)) → quantAr (fin s m e) ≡ coefficient (fin s m e)
-unfolding product k quantAr ofBits coefficient times64 held
+unfolding product k quantAr round coefficient times64 held
 finite-steps s m e t =
     elim (decLe (2 ^ 1024 * down e) (m * up e * 2 ^ 6)) [
       | yes h ↦ held-steps s m e t h
@@ -124,7 +124,7 @@ finite-steps s m e t =
     ] ∙ sym (hold-signed s (k s m e t))
 
 pub quant-is-coefficient : (c : Float) → T (fits binary64 c) → quantAr c ≡ coefficient c
-unfolding quantAr ofBits mul roundHalfAway toSigned clampOf coefficient times64 held
+unfolding quantAr round mul roundHalfAway toSigned clampOf coefficient times64 held
 quant-is-coefficient nan t = refl
 quant-is-coefficient (inf true) t = refl
 quant-is-coefficient (inf false) t = refl

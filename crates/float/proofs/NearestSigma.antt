@@ -14,7 +14,7 @@ use lib.IntN.{ℤ, pos, negsuc, negℤ, natAbs}
 use lib.Signed.{_≤ℤ_}
 use lib.Dec.{T, leb→le, lit<, lit≤}
 use lib.Pow.{pow-pos}
-use lib.Ieee.{Float, nan, inf, fin, binary64, up, down, round, mul, ofBits, fits, le, toUnsigned}
+use lib.Ieee.{Float, nan, inf, fin, binary64, up, down, round, mul, fits, le, toUnsigned}
 use lib.ListN.{length}
 use lib.Ieee.Fits.{down-pos, mul-fits}
 use lib.Ieee.Order.{round-mono}
@@ -176,7 +176,7 @@ module _ (s n : ℕ) (S : 0 < s) (N : 0 < n) (n-small : n ≤ planeLimit) (s-sma
   z-fits = rw (root-of-number y y-pos) (root-fits _)
 
   steps : sigma16Of s n ≡ k
-  unfolding sigma16Of deviation16 ofBits k z y
+  unfolding sigma16Of deviation16 round k z y
   steps =
       rw (ne-eqb n 0 (λ e. omega arith))
       (ap (λ (x : Float). toUnsigned 64 (roundHalfAway (mul binary64 (root x) (fin false 1 (pos 4))))) (quotient s n N (omega arith) (omega arith)) ∙ last-steps z z-fits z-pos z-small)
@@ -186,7 +186,7 @@ module _ (s n : ℕ) (S : 0 < s) (N : 0 < n) (n-small : n ≤ planeLimit) (s-sma
 
 -- ---- no square at all
 steps-zero : (n : ℕ) → 0 < n → n ≤ planeLimit → sigma16Of 0 n ≡ 0
-unfolding sigma16Of deviation16 ofBits roundHalfAway halfUp toUnsigned mul root round
+unfolding sigma16Of deviation16 roundHalfAway halfUp toUnsigned mul root round
 steps-zero n N h =
     rw (ne-eqb n 0 (λ e. omega arith))
     (ap (λ (x : Float). toUnsigned 64 (roundHalfAway (mul binary64 (root x) (fin false 1 (pos 4))))) (quotient 0 n N zero-le (omega arith) ∙ round-same binary64 false 0 n 0 1 N (lit< tt) (sym (zero-mul n))))

@@ -19,7 +19,7 @@ unfoldable pub twiceRoot : ℕ → ℕ
 unfolding wholeRoot
 twiceRoot n = let r = wholeRoot n in 2 * r + cond (eqb (r * r) n) 0 1
 
--- The root of n, in units of the smallest f64, 2 ^ -1074, rounded to an f64. Between r and r + 1 units lies no f64 and no middle of two, so r and a half rounds as a root there does.
+-- The root of n, in units of the smallest f64, 2 ^ -1074, rounded to an f64. The n of an f64 above 0 is 2 ^ 1074 or more. From there on, between r and r + 1 units lies no f64 and no middle of two, so r and a half rounds as a root there does.
 unfoldable pub rootOf : ℕ → Float
 unfolding twiceRoot round
 rootOf n = round binary64 false (twiceRoot n) (2 * 2 ^ 1074)

@@ -1,5 +1,5 @@
 -- Laws of the first question that fails: a refused and an accepted call, questions asked after others, and an answer of 0. By cases on the answers. Assumes nothing.
-use mathlib.Core.Path.{_≡_, refl, sym, _∙_}
+use mathlib.Core.Path.{_≡_, refl, sym, ap, _∙_}
 use mathlib.Core.Bool.{Bool, true, false, cond, _&&_, false≢true}
 use mathlib.Core.List.{List, [], _∷_, _++_}
 use Prim.Native.Nat.{ℕ, zero, suc}
@@ -15,6 +15,14 @@ module _ {ℓ} {A : Type ℓ} where
 
   pub granted : (n : ℕ) (new old : A) → n ≡ 0 → accepted n new old ≡ new
   granted n new old e = rw e
+
+-- an answer of the form `accepted n value (none n)`
+module _ {A : Type 0} (value : A) (none : ℕ → A) {n m : ℕ} (e : n ≡ m) where
+  pub answer-refused : (n ≡ 0 → ⊥) → none n ≡ accepted m value (none m)
+  answer-refused z = ap none e ∙ sym (refused m value (none m) (λ d. z (e ∙ d)))
+
+  pub answer-granted : n ≡ 0 → value ≡ accepted m value (none m)
+  answer-granted z = sym (granted m value (none m) (sym e ∙ z))
 
 -- every question has a number, which is not 0
 abbrev pub numbered : List Question → Bool

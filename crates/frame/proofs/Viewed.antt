@@ -7,7 +7,6 @@ use native.Mathlib.Omega.{arith}
 use lib.Arith.{digits-lt, digits-div, digits-mod}
 use lib.ListN.{length, getD}
 use lib.Seq.{ext-getD}
-use Rattle.laws.specs.Table.{tabulate}
 use Rattle.laws.proofs.Table.{length-tabulate, getD-tabulate}
 use Rattle.frame.specs.View.{placeAt, viewed, whole}
 use Rattle.frame.specs.declared.view.View.{View}

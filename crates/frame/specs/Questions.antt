@@ -3,7 +3,7 @@ use mathlib.Core.Bool.{Bool, true, cond, _&&_, _||_}
 use mathlib.Core.List.{List, [], _∷_}
 use Prim.Native.Nat.{ℕ, zero, suc, _*_, _^_}
 use lib.Dec.{leb, ltb, eqb}
-use Rattle.laws.specs.Limits.{sideLimit}
+use Rattle.laws.specs.Limits.{sideLimit, lagLimit, orderLimit}
 use Rattle.frame.specs.Planes.{samplesOf}
 use Rattle.frame.specs.declared.Shape.{Shape}
 use Rattle.frame.specs.declared.view.Component.the-variants.{Y, CbCr}
@@ -66,11 +66,11 @@ samplesLow depth planes = (allLow depth planes, 6)
 
 -- Is a fit's lag at most 3? No: 7.
 abbrev pub lagKnown : ℕ → Question
-lagKnown lag = (leb lag 3, 7)
+lagKnown lag = (leb lag lagLimit, 7)
 
 -- Is the solver's order 1 to 25? No: 8.
 abbrev pub orderKnown : ℕ → Question
-orderKnown order = (leb 1 order && leb order 25, 8)
+orderKnown order = (leb 1 order && leb order orderLimit, 8)
 
 -- Is the register asked for at most 16 bits? No: 9.
 abbrev pub bitsKnown : ℕ → Question

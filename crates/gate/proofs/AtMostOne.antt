@@ -8,7 +8,7 @@ use native.Mathlib.Omega.{arith}
 use lib.Dec.{T, ltb, eqb, ltb→lt, eqb→eq, lt→ltb, lit≤, lit<}
 use lib.IntN.{ℤ, pos, natAbs}
 use lib.Signed.{nonNeg}
-use lib.Ieee.{Float, nan, inf, fin, binary64, low, odd, units, round, up, down, unlike, div, le, ofBits}
+use lib.Ieee.{Float, nan, inf, fin, binary64, low, odd, units, round, up, down, unlike, div, le}
 use lib.Ieee.Fits.{round-is, down-pos, eq→eqb}
 use lib.Ieee.Order.{kept, drop, round-mono}
 use Rattle.laws.specs.Scaled.{ofScaled}
@@ -37,7 +37,7 @@ level : (a b : ℕ) (y : Bool) → a ≤ b → (a ≡ b → T y) → (ltb a b ||
 level a b y h k = elim (eq-or-lt-of-le h) [ inl p ↦ or-right (ltb a b) y (k p) | inr q ↦ or-left (ltb a b) (y && true) (lt→ltb a b q) ]
 
 up-to-within : (s : Bool) (x : Float) → UpToOne s x → AtMostOne x
-unfolding le ofBits
+unfolding le round
 up-to-within s nan v = absurd v
 up-to-within s (inf t) v = absurd v
 up-to-within s (fin true m e) v =
@@ -59,7 +59,7 @@ at-most a b t = go (ltb a b) (eqb a b) (ltb→lt a b) (eqb→eq a b) t
     go false false p q t = absurd t
 
 up-to-fin : (s : Bool) (m : ℕ) (e : ℤ) → T (le (fin false m e) one) → UpToOne s (fin s m e)
-unfolding le ofBits
+unfolding le round
 up-to-fin s m e t = (refl, omega (arith, at-most (m * up e * 1) (1 * down e) t))
 
 up-to-odd : (d : ℕ) (s : Bool) (q k l : ℕ) → T (le (odd d false q k l) one) → UpToOne s (odd d s q k l)
@@ -68,7 +68,7 @@ up-to-odd d s zero k l t = (refl, zero-le)
 up-to-odd d s (suc q) k l t = up-to-fin s _ _ t
 
 up-to-units : (s : Bool) (q k : ℕ) → T (le (units binary64 false q k) one) → UpToOne s (units binary64 s q k)
-unfolding units le ofBits
+unfolding units le round
 up-to-units s q k t = go (ltb (q * 2 ^ k) (2 ^ 2098)) t
   where
     go : (b : Bool) → T (le (cond b (odd 54 false q k 1074) (inf false)) one) → UpToOne s (cond b (odd 54 s q k 1074) (inf s))
@@ -76,7 +76,7 @@ up-to-units s q k t = go (ltb (q * 2 ^ k) (2 ^ 2098)) t
     go false t = absurd t
 
 up-to-round : (s : Bool) (a b : ℕ) → 0 < b → a ≤ b → UpToOne s (round binary64 s a b)
-unfolding round ofBits
+unfolding round
 up-to-round s a b B h =
     subst (UpToOne s) (sym (round-is binary64 s a b))
     (up-to-units s (kept 53 (a * 2 ^ low binary64) b) (drop 53 (a * 2 ^ low binary64) b) (subst (λ (x : Float). T (le x one)) (round-is binary64 false a b) (round-mono binary64 a b 1 1 B (lit< tt) (omega arith))))

@@ -8,7 +8,7 @@ use native.Mathlib.Omega.{arith}
 use lib.Dec.{T, eqb, leb, nleb→lt, lit≤}
 use lib.IntN.{ℤ, pos, negsuc, natAbs, _*ℤ_}
 use lib.Signed.{_≤ℤ_}
-use lib.Ieee.{Float, binary64, div, le, ofBits}
+use lib.Ieee.{Float, binary64, div, le, ofBits, round}
 use Rattle.laws.specs.Scaled.{plusZero, ofScaled}
 use Rattle.laws.specs.Sums.{sumTo}
 use Rattle.laws.proofs.Scaled.{scaled-int, scaled-zero}
@@ -32,7 +32,7 @@ use Rattle.gate.specs.AtMostOne.{AtMostOne}
 use Rattle.gate.proofs.AtMostOne.{quotient-within}
 
 nothing-within : AtMostOne plusZero
-unfolding le ofBits
+unfolding le ofBits round
 nothing-within = record { least = refl; most = refl }
 
 whole-abs : (z : ℤ) → pos 0 ≤ℤ z → z ≡ pos (natAbs z)

@@ -18,4 +18,5 @@ pub mod FloatSums
 pub mod Law
 pub mod LoopLaw
 pub mod Limits
+pub mod Constants
 pub mod Turns

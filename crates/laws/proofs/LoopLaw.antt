@@ -12,7 +12,7 @@ use Rattle.laws.specs.Sums.{sumTo, span}
 use Rattle.laws.specs.Scaled.{plusZero, ofScaled, Holds}
 use Rattle.laws.specs.Sets.{NoDup}
 use Rattle.laws.specs.Law.{Limit, Held, Product, Positions}
-use Rattle.laws.proofs.Sums.{sum-ext, span-zero, sum-upto}
+use Rattle.laws.proofs.Sums.{spans-zero, sum-upto}
 use Rattle.laws.proofs.Window.{in-range, range-nodup, length-range, in-window, window-nodup, length-window, sum-window}
 use Rattle.laws.proofs.FloatSums.{loop-sum, loops-sum}
 use Rattle.laws.proofs.Law.{law-of-sums}
@@ -55,7 +55,4 @@ module _ (L : Limit) (H : Held L) where
       → loop 0 h (λ r. loop 0 w (λ q s. add binary64 s (f r q))) plusZero ≡ ofScaled (L .scale) (sumTo (λ r. sumTo (g r) w) h)
   plane-exact h w f g few small holds =
       window-exact 0 h 0 w f g (le-trans (le-of-eq (λ i. sub-zero h i * sub-zero w i)) few) (λ r q a b c d. small r q b d) (λ r q a b c d. holds r q b d)
-      ∙ ap (ofScaled (L .scale))
-      ((λ i. span (λ r. span (g r) 0 (sub-zero w i)) 0 (sub-zero h i))
-      ∙ span-zero (λ r. span (g r) 0 w) h
-      ∙ sum-ext (λ r. span (g r) 0 w) (λ r. sumTo (g r) w) h (λ r l. span-zero (g r) w))
+      ∙ ap (ofScaled (L .scale)) (spans-zero g h w)

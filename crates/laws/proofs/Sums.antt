@@ -2,8 +2,7 @@
 use mathlib.Core.Path.{_≡_, refl, sym, ap, _∙_}
 use mathlib.Core.List.{List, [], _∷_, _++_, map}
 use Prim.Native.Nat.{ℕ, zero, suc, _+_, _-_, _*_, _≤_, _<_, zero-le}
-use native.Mathlib.Nat.{le-step, le-trans, le-of-eq, lt-suc-self, zero-add, add-zero, add-suc, add-comm, sub-zero, add-le-add, suc-mul}
-use native.Mathlib.Numerals.{add-one}
+use native.Mathlib.Nat.{le-step, le-trans, le-of-eq, lt-suc-self, zero-add, add-comm, sub-zero, add-le-add, suc-mul}
 use lib.IntN.{ℤ, pos, negℤ, natAbs, _+ℤ_, _-ℤ_, _*ℤ_, +ℤ-idl, +ℤ-idr, +ℤ-assoc, +ℤ-comm, +ℤ-negℤ-cancel, *ℤ-zero, zero-*ℤ}
 use lib.Signed.{_≤ℤ_, ≤ℤ-refl}
 use Rattle.laws.specs.Sums.{total, sumTo, span, sumZ}
@@ -20,6 +19,13 @@ sum-ext f g n h = total-ext _+ℤ_ (pos 0) f g n h
 
 pub span-zero : (g : ℕ → ℤ) (n : ℕ) → span g 0 n ≡ sumTo g n
 span-zero g n = sum-ext (λ i. g (0 + i)) g n (λ i l. ap g (zero-add i))
+
+-- rows and columns from 0 on
+pub spans-zero : (g : ℕ → ℕ → ℤ) (h w : ℕ) → span (λ r. span (g r) 0 (w - 0)) 0 (h - 0) ≡ sumTo (λ r. sumTo (g r) w) h
+spans-zero g h w =
+    (λ i. span (λ r. span (g r) 0 (sub-zero w i)) 0 (sub-zero h i))
+    ∙ span-zero (λ r. span (g r) 0 w) h
+    ∙ sum-ext (λ r. span (g r) 0 w) (λ r. sumTo (g r) w) h (λ r l. span-zero (g r) w)
 
 pub sum-split : (g : ℕ → ℤ) (a n : ℕ) → sumTo g (a + n) ≡ sumTo g a +ℤ span g a n
 sum-split g a n = total-split _+ℤ_ (pos 0) +ℤ-assoc +ℤ-idr g a n

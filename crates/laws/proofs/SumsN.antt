@@ -1,5 +1,5 @@
 -- Sums of natural numbers: those of any total, size, a sum of 0, and the same over ℤ. Each by induction on the number of terms. Assumes nothing.
-use mathlib.Core.Path.{_≡_, refl, sym, ap, _∙_}
+use mathlib.Core.Path.{_≡_, refl, ap}
 use Prim.Native.Nat.{ℕ, zero, suc, _+_, _-_, _*_, _≤_, _<_, zero-le}
 use native.Mathlib.Nat.{le-step, lt-suc-self, add-zero, add-assoc}
 use native.Mathlib.Omega.{arith}

@@ -5,7 +5,7 @@ use Prim.Native.Nat.{ℕ, _+_, _-_, _*_, _<_, _≤_, zero-le}
 use native.Mathlib.Nat.{add-zero, add-assoc, mul-comm, sub-zero}
 use native.Mathlib.Omega.{arith}
 use lib.Dec.{le→leb, lt→ltb}
-use lib.IntN.{ℤ, pos, _+ℤ_, _*ℤ_}
+use lib.IntN.{pos, _+ℤ_, _*ℤ_}
 use lib.Signed.{leZ-yes, ltZ-yes}
 use lib.Ieee.{Float, binary64, add, mul, ofBits}
 use Rattle.laws.specs.Loop.{loop}
@@ -14,7 +14,7 @@ use Rattle.laws.specs.Scaled.{plusZero, ofScaled}
 use Rattle.laws.specs.Window.{window}
 use Rattle.laws.specs.FloatSums.{sumF}
 use Rattle.laws.specs.Law.{Held}
-use Rattle.laws.proofs.Sums.{sum-ext, span-zero}
+use Rattle.laws.proofs.Sums.{spans-zero}
 use Rattle.laws.proofs.Window.{in-window, window-nodup, sum-window}
 use Rattle.laws.proofs.FloatSums.{loops-sum}
 use Rattle.laws.specs.Limits.{planeLimit, sampleLimit}
@@ -58,11 +58,7 @@ module _ (limit top : ℕ) (u v : Factor) (H : Held (limitOf limit top u v)) (S 
   -- counted from 0
   pub rows-sum : (h w : ℕ) → Everywhere u v 0 h 0 w → windowF u v 0 h 0 w ≡ ofScaled (scale u v) (sumTo (λ y. sumTo (λ x. exactly u v (y, x)) w) h)
   rows-sum h w e =
-      window-sum 0 h 0 w e
-      ∙ ap (ofScaled (scale u v))
-      ((λ i. span (λ y. span (λ x. exactly u v (y, x)) 0 (sub-zero w i)) 0 (sub-zero h i))
-      ∙ span-zero (λ y. span (λ x. exactly u v (y, x)) 0 w) h
-      ∙ sum-ext (λ y. span (λ x. exactly u v (y, x)) 0 w) (λ y. sumTo (λ x. exactly u v (y, x)) w) h (λ y l. span-zero (λ x. exactly u v (y, x)) w))
+      window-sum 0 h 0 w e ∙ ap (ofScaled (scale u v)) (spans-zero (λ y x. exactly u v (y, x)) h w)
 
 -- ---- a noise and the one `lag` columns on, of two planes of one shape
 pub own-place : (p : Pair) (r c : ℕ) → reached p (pos 0) (pos 0) (r, c) ≡ place (p .width) r c

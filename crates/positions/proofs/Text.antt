@@ -1,19 +1,23 @@
 -- The specification's walk visits the neighbours by number: the Rust's list. Assumes nothing.
 use mathlib.Core.Path.{_≡_, refl, sym, ap, _∙_}
-use mathlib.Core.Bool.{false}
+use mathlib.Core.Bool.{true, false, and-false}
 use mathlib.Core.List.{List, [], _∷_, _++_, append-nil, append-assoc}
-use Prim.Native.Nat.{ℕ, zero, suc, _+_, _*_, _≤_, _<_}
-use native.Mathlib.Nat.{zero-mul, le-refl, le-trans, le-suc, le-of-lt}
+use mathlib.Core.Logic.{⊎-elim}
+use Prim.Native.Nat.{ℕ, zero, suc, _+_, _*_, _/_, _%_, _≤_, _<_}
+use native.Mathlib.Nat.{zero-mul, add-mul, mul-le-mul-right, div-add-mod', le-refl, le-trans, le-suc}
 use native.Mathlib.Numerals.{add-one}
 use native.Mathlib.Omega.{arith}
-use lib.IntN.{ℤ, pos, _-ℤ_}
+use lib.Dec.{eqb}
+use lib.IntN.{ℤ, pos, natAbs, _-ℤ_}
 use Rattle.laws.specs.Table.{tabulate}
-use Rattle.laws.proofs.Table.{map-tabulate, tabulate-then}
+use Rattle.laws.proofs.Order.{lt-or-ge}
+use Rattle.laws.proofs.Table.{map-tabulate, tabulate-add}
 use Rattle.positions.specs.Counts.{side, neighbours}
-use Rattle.positions.specs.Text.{Delta, fromMinus, isSample, upToSample, walkRow, walkRows, walk}
+use Rattle.positions.specs.Text.{Delta, fromMinus, visitRows, visits, isSample, upToSample, walk}
 use Rattle.positions.specs.Positions.{positions}
+use Rattle.positions.proofs.Counts.{factors-rows}
 use Rattle.positions.proofs.Offsets.{is-zero, is-not-zero}
-use Rattle.positions.proofs.Places.{column, offsetAt, rows-then, places-then}
+use Rattle.positions.proofs.Places.{offsetAt, rows-then, place-is, all-rows}
 use Rattle.positions.proofs.Steps.{positions-are}
 
 -- places that are not the sample are all visited, before what follows them
@@ -26,59 +30,47 @@ passed (suc n) g ps h =
     ∙ passed n g (g n ∷ ps) (λ j l. h j (le-trans l (le-suc n)))
     ∙ rw (h n (le-refl (suc n)), append-assoc)
 
-row-of : (lag : ℕ) (dr : ℤ) → walkRow lag dr ≡ upToSample (tabulate (side lag) (column lag dr))
-unfolding walkRow
-row-of lag dr = ap upToSample (map-tabulate (λ (dc : ℤ). (dr, dc)) (side lag) (λ k. pos k -ℤ pos lag))
-
--- a row above the sample's
-row-above : (lag k : ℕ) → k < lag → walkRow lag (pos k -ℤ pos lag) ≡ tabulate (side lag) (column lag (pos k -ℤ pos lag))
-unfolding upToSample
-row-above lag k h =
-    row-of lag (pos k -ℤ pos lag)
-    ∙ ap upToSample (sym (append-nil (tabulate (side lag) (column lag (pos k -ℤ pos lag)))))
-    ∙ passed (side lag) (column lag (pos k -ℤ pos lag)) [] (λ j l. rw (is-not-zero k lag h))
-    ∙ append-nil (tabulate (side lag) (column lag (pos k -ℤ pos lag)))
-
--- the sample's row: the sample is column lag, and lag columns follow it
-row-of-sample : (lag : ℕ) → walkRow lag (pos lag -ℤ pos lag) ≡ tabulate lag (column lag (pos lag -ℤ pos lag))
-unfolding upToSample
-row-of-sample lag =
-    row-of lag (pos lag -ℤ pos lag)
-    ∙ ap upToSample split
-    ∙ passed lag at-row (at-row lag ∷ tabulate lag (λ j. at-row (suc lag + j))) (λ j l. rw (is-zero lag, is-not-zero j lag l))
-    ∙ rw (is-zero lag, append-nil)
-  where
-    at-row : ℕ → Delta
-    at-row = column lag (pos lag -ℤ pos lag)
-
-    split : tabulate (side lag) at-row ≡ tabulate lag at-row ++ (at-row lag ∷ tabulate lag (λ j. at-row (suc lag + j)))
-    split =
-        let e : side lag ≡ suc lag + lag = omega arith in
-        ap (λ (n : ℕ). tabulate n at-row) e
-        ∙ sym (tabulate-then (suc lag) lag at-row (λ j. at-row (suc lag + j)) (λ j l. refl))
-        ∙ append-assoc (tabulate lag at-row) (at-row lag ∷ []) (tabulate lag (λ j. at-row (suc lag + j)))
-
-rows-append : (lag : ℕ) (rs qs : List ℤ) → walkRows lag (rs ++ qs) ≡ walkRows lag rs ++ walkRows lag qs
-unfolding walkRows
+-- all places, row by row
+rows-append : (lag : ℕ) (rs qs : List ℤ) → visitRows lag (rs ++ qs) ≡ visitRows lag rs ++ visitRows lag qs
+unfolding visitRows
 rows-append lag [] qs = refl
 rows-append lag (r ∷ rs) qs = rw (rows-append lag rs qs, append-assoc)
 
--- one row more
-rows-more : (lag k : ℕ) → walkRows lag (fromMinus lag (suc k)) ≡ walkRows lag (fromMinus lag k) ++ walkRow lag (pos k -ℤ pos lag)
-unfolding walkRows
-rows-more lag k = rows-append lag (fromMinus lag k) ((pos k -ℤ pos lag) ∷ []) ∙ rw (append-nil (walkRow lag (pos k -ℤ pos lag)))
+rows-are : (lag k : ℕ) → visitRows lag (fromMinus lag k) ≡ tabulate (k * side lag) (offsetAt lag)
+unfolding visitRows
+rows-are lag zero = rw (zero-mul (side lag))
+rows-are lag (suc k) =
+    rows-append lag (fromMinus lag k) ((pos k -ℤ pos lag) ∷ [])
+    ∙ rw (rows-are lag k, append-nil, map-tabulate) (rows-then lag k)
 
-rows-above : (lag k : ℕ) → k ≤ lag → walkRows lag (fromMinus lag k) ≡ tabulate (k * side lag) (offsetAt lag)
-unfolding walkRows
-rows-above lag zero h = rw (zero-mul (side lag))
-rows-above lag (suc k) h = rows-more lag k ∙ rw (rows-above lag k (le-of-lt h), row-above lag k h) (rows-then lag k)
+-- the neighbours, the sample, and the rest of its row
+pub visits-are : (lag : ℕ) → visits lag ≡ tabulate (neighbours lag) (offsetAt lag) ++ (offsetAt lag (neighbours lag) ∷ tabulate lag (λ j. offsetAt lag (neighbours lag + 1 + j)))
+unfolding visits
+visits-are lag =
+    let e : (lag + 1) * side lag ≡ neighbours lag + 1 + lag = omega (arith, factors-rows lag, add-mul lag 1 (side lag)) in
+    rows-are lag (lag + 1)
+    ∙ ap (λ (n : ℕ). tabulate n (offsetAt lag)) e
+    ∙ tabulate-add (neighbours lag + 1) lag (offsetAt lag)
+    ∙ rw (add-one (neighbours lag)) (append-assoc (tabulate (neighbours lag) (offsetAt lag)) (offsetAt lag (neighbours lag) ∷ []) _)
+
+-- a neighbour is not the sample, which comes after the last of them
+not-sample : (lag i : ℕ) → i < neighbours lag → isSample (offsetAt lag i) ≡ false
+not-sample lag i h = ⊎-elim (λ l. rw (is-not-zero (i / side lag) lag l)) (λ g. rw (is-not-zero (i % side lag) lag (early g)) (and-false (eqb (natAbs (pos (i / side lag) -ℤ pos lag)) 0))) (lt-or-ge (i / side lag) lag)
+  where
+    early : lag ≤ i / side lag → i % side lag < lag
+    early g = omega (arith, h, all-rows lag, div-add-mod' i (side lag), mul-le-mul-right (side lag) g)
+
+pub is-sample : (lag : ℕ) → isSample (offsetAt lag (neighbours lag)) ≡ true
+is-sample lag =
+    let l : lag < side lag = omega arith in
+    ap (λ (i : ℕ). isSample (offsetAt lag i)) (sym (all-rows lag)) ∙ ap isSample (place-is lag lag lag l) ∙ rw (is-zero lag)
 
 pub walk-is : (lag : ℕ) → walk lag ≡ tabulate (neighbours lag) (offsetAt lag)
-unfolding walk
+unfolding walk upToSample
 walk-is lag =
-    ap (λ (n : ℕ). walkRows lag (fromMinus lag n)) (add-one lag)
-    ∙ rows-more lag lag
-    ∙ rw (rows-above lag lag (le-refl lag), row-of-sample lag) (places-then lag)
+    ap upToSample (visits-are lag)
+    ∙ passed (neighbours lag) (offsetAt lag) _ (not-sample lag)
+    ∙ rw (is-sample lag, append-nil)
 
 -- the specification's order is the Rust's
 pub walk-is-positions : (lag : ℕ) → walk lag ≡ positions lag

@@ -5,6 +5,7 @@ use Prim.Native.Nat.{ℕ, _+_, _-_, _*_}
 use lib.Dec.{eqb}
 use lib.IntN.{ℤ, pos, natAbs, _-ℤ_}
 use lib.ListN.{length, replicate}
+use Rattle.laws.specs.Limits.{neighbourLimit}
 use Rattle.laws.specs.Loop.{loop}
 use Rattle.frame.specs.Questions.{accepted}
 use Rattle.frame.specs.Calls.{lagRefusal}
@@ -21,7 +22,7 @@ pub record Along : Type 0 where
   pub out : List Offset
   pub ended : Bool
 
--- `dr == 0 && dc == 0`
+-- `dr == 0 && dc == 0`; natAbs is 0 of 0 alone
 abbrev pub stops : ℤ → ℤ → Bool
 stops dr dc = eqb (natAbs dr) 0 && eqb (natAbs dc) 0
 
@@ -42,9 +43,9 @@ positions lag = loop 0 (lag + 1) (λ k. row lag (pos k -ℤ pos lag)) []
 
 -- ---- the call
 
--- these, and zeros up to 24
+-- these, and zeros up to the most that there are
 abbrev pub padded : List ℤ → List ℤ
-padded zs = zs ++ replicate (24 - length zs) (pos 0)
+padded zs = zs ++ replicate (neighbourLimit - length zs) (pos 0)
 
 -- an accepted call's: a list of places
 abbrev pub listed : List Offset → Positions
@@ -53,7 +54,7 @@ listed places =
 
 -- "A refused call returns its number, with every other field of the answer zero."
 abbrev pub refused : ℕ → Positions
-refused n = record { refusal = n; count = 0; rows = replicate 24 (pos 0); columns = replicate 24 (pos 0) }
+refused n = record { refusal = n; count = 0; rows = replicate neighbourLimit (pos 0); columns = replicate neighbourLimit (pos 0) }
 
 unfoldable pub positionsOf : ℕ → Positions
 positionsOf lag = let n = lagRefusal lag in accepted n (listed (positions lag)) (refused n)

@@ -2,7 +2,6 @@
 use mathlib.Core.Path.{_≡_, sym, ap, _∙_}
 use mathlib.Core.List.{List}
 use Prim.Native.Nat.{ℕ, _-_, _*_}
-use Rattle.frame.specs.Questions.{accepted}
 use Rattle.frame.specs.Calls.{pairRefusal, frameRefusal}
 use Rattle.frame.specs.Planes.{viewOf}
 use Rattle.frame.specs.View.{viewed, whole}
@@ -11,7 +10,7 @@ use Rattle.frame.specs.declared.view.View.{View}
 use Rattle.frame.specs.declared.view.Component.the-variants.{Y, CbCr}
 use Rattle.frame.proofs.Accepted.{pair-call, frame-call}
 use Rattle.frame.proofs.Facts.{Sides, chroma-sides, Depth, LowPlane}
-use Rattle.frame.proofs.Refusal.{refused, granted}
+use Rattle.frame.proofs.Refusal.{answer-refused, answer-granted}
 use Rattle.noise.proofs.Seen.{seen-all}
 use Rattle.noise.proofs.Accepted.{plane-of}
 use Rattle.profile.specs.Steps.{planeSigma16}
@@ -19,14 +18,6 @@ use Rattle.profile.specs.Answers.{sigmaOf, noSigma, sigmaAnswer, lumaPro
 use Rattle.profile.specs.Runs.{SeenAt}
 use Rattle.profile.specs.declared.LumaProfile.{LumaProfile}
 use Rattle.profile.specs.declared.ChromaProfile.{ChromaProfile}
-
--- an answer of the form `accepted n value (none n)`
-module _ {A : Type 0} (value : A) (none : ℕ → A) {n m : ℕ} (e : n ≡ m) where
-  answer-refused : (n ≡ 0 → ⊥) → none n ≡ accepted m value (none m)
-  answer-refused z = ap none e ∙ sym (refused m value (none m) (λ d. z (e ∙ d)))
-
-  answer-granted : n ≡ 0 → value ≡ accepted m value (none m)
-  answer-granted z = sym (granted m value (none m) (sym e ∙ z))
 
 seen-at : (w h : ℕ) {depth : ℕ} {source denoised : List ℕ} → Sides w h → Depth depth → LowPlane (w * h) depth source → LowPlane (w * h) depth denoised
     → SeenAt depth (whole w h) source denoised

@@ -1,5 +1,5 @@
 -- The answer from where the call ends: refused, at a small pivot, or with every column cleared. Assumes nothing.
-use mathlib.Core.Path.{_≡_, refl, sym, ap, _∙_}
+use mathlib.Core.Path.{_≡_, sym, ap, _∙_}
 use mathlib.Core.Bool.{true}
 use Prim.Native.Nat.{ℕ}
 use Rattle.laws.specs.Loop.{loop}

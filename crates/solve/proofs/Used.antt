@@ -1,7 +1,7 @@
 -- Only the first `order` rows and columns of the matrix and the first `order` entries of the right side matter: each step keeps two systems that agree there in agreement. Assumes nothing.
 use mathlib.Core.Path.{_≡_, refl, ap, sym, _∙_}
 use mathlib.Core.Bool.{Bool, true, false, cond}
-use mathlib.Core.List.{[], map}
+use mathlib.Core.List.{[]}
 use Prim.Native.Nat.{ℕ, _+_, _-_, _≤_, _<_}
 use native.Mathlib.Omega.{arith}
 use lib.ListN.{length, getD, take, length-map, List·getD-map}

@@ -1,9 +1,8 @@
 -- "The solution is a count with 25 f64 values, unused ones plus zero": a found solution's count is the order, and every answer has 25 values, plus zero from its count on. Assumes nothing.
-use mathlib.Core.Path.{_≡_, refl, _∙_}
-use mathlib.Core.Bool.{true}
+use mathlib.Core.Path.{refl, _∙_}
 use Prim.Native.Nat.{ℕ, zero, suc, _-_, _≤_, _<_}
 use native.Mathlib.Omega.{arith}
-use lib.ListN.{length, replicate, length-set, length-replicate, getD-replicate}
+use lib.ListN.{replicate, length-set, length-replicate, getD-replicate}
 use lib.Seq.{getD-set-other}
 use lib.Ieee.{nan}
 use Rattle.laws.specs.Scaled.{plusZero}
@@ -11,7 +10,7 @@ use Rattle.laws.proofs.Loop.{loops-together}
 use Rattle.frame.specs.Questions.{accepted}
 use Rattle.frame.specs.Calls.{orderRefusal}
 use Rattle.solve.specs.declared.Solved.{Solved}
-use Rattle.solve.specs.Elimination.{Row, Matrix, System, Stage, going, none, value, placed, substituted}
+use Rattle.solve.specs.Elimination.{Row, Matrix, System, Stage, going, none, placed, substituted}
 use Rattle.solve.specs.Words.{Padded, Whole}
 use Rattle.solve.specs.Answer.{refused, answerOf, solvedOf}
 

@@ -2,6 +2,7 @@
 use mathlib.Core.Bool.{true, false}
 use Prim.Native.Nat.{ℕ}
 use lib.ListN.{replicate}
+use Rattle.laws.specs.Limits.{orderLimit}
 use Rattle.laws.specs.Scaled.{plusZero}
 use Rattle.frame.specs.Questions.{accepted}
 use Rattle.frame.specs.Calls.{orderRefusal}
@@ -10,7 +11,7 @@ use Rattle.solve.specs.declared.Solved.{Solved}
 
 -- a refusal's number, with every other field zero
 abbrev pub refused : ℕ → Solved
-refused n = record { refusal = n; found = false; solution = record { order = 0; values = replicate 25 plusZero } }
+refused n = record { refusal = n; found = false; solution = record { order = 0; values = replicate orderLimit plusZero } }
 
 -- an accepted call's: no solution, which has zeros too, or one
 unfoldable pub answerOf : ℕ → Stage → Solved

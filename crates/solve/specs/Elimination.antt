@@ -6,6 +6,7 @@ use Prim.Native.Nat.{ℕ, _+_, _-_}
 use lib.ListN.{getD, set, replicate}
 use lib.Ieee.{Float, nan, binary64, sub, mul, div, lt}
 use Rattle.laws.specs.Constants.{tiny}
+use Rattle.laws.specs.Limits.{orderLimit}
 use Rattle.laws.specs.Loop.{loop}
 use Rattle.laws.specs.Scaled.{plusZero}
 use Rattle.float.specs.Magnitude.{magnitudeOf}
@@ -117,4 +118,4 @@ placed p s n x =
 
 -- let mut x = vec![0.0; p]; for i in (0..p).rev() { .. }
 unfoldable pub substituted : ℕ → System → Row
-substituted p s = loop 0 p (placed p s) (replicate 25 plusZero)
+substituted p s = loop 0 p (placed p s) (replicate orderLimit plusZero)

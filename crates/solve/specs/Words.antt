@@ -6,6 +6,7 @@ use mathlib.Core.Logic.{_⊎_}
 use Prim.Native.Nat.{ℕ, _≤_, _<_}
 use lib.ListN.{length, getD, take}
 use lib.Ieee.{Float, nan, lt, le}
+use Rattle.laws.specs.Limits.{orderLimit}
 use Rattle.laws.specs.Scaled.{plusZero}
 use Rattle.float.specs.Magnitude.{magnitudeOf}
 use Rattle.solve.specs.Elimination.{Row, Matrix, System, value, cell}
@@ -53,8 +54,8 @@ pub record FirstLargest (a : Matrix) (i k v : ℕ) : Type 0 where
 
 -- 25 values, plus zero from n on
 pub record Padded (n : ℕ) (x : Row) : Type 0 where
-  pub full : length x ≡ 25
-  pub unused : (k : ℕ) → n ≤ k → k < 25 → value x k ≡ plusZero
+  pub full : length x ≡ orderLimit
+  pub unused : (k : ℕ) → n ≤ k → k < orderLimit → value x k ≡ plusZero
 
 -- what holds of every answer: its number, its count where a solution is found, and its values
 pub record Whole (refusal order : ℕ) (r : Solved) : Type 0 where

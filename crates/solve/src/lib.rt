@@ -3,7 +3,7 @@ ghost use mathlib.Core.Path.{_≡_};
 ghost use mathlib.Core.List.{[]};
 ghost use Prim.Native.Nat.{_<_, _≤_};
 ghost use lib.Ieee.{nan};
-ghost use Rattle.solve.specs.Elimination.{System, value, less, pivotOf, swapped, cleared, unknownOf, substituted};
+ghost use Rattle.solve.specs.Elimination.{value, less, pivotOf, swapped, cleared, unknownOf, substituted};
 ghost use Rattle.solve.specs.Answer.{refused, solvedOf};
 ghost use Rattle.solve.specs.Rows.{entryLess, factorOf, lessRow};
 

@@ -1,8 +1,5 @@
 -- Every row of the tables holds, by computation. Assumes nothing.
 use mathlib.Core.Path.{refl}
-use mathlib.Core.List.{List}
-use lib.IntN.{ℤ}
-use lib.ListN.{length}
 use lib.Ieee.{mul, div, round, ofInt, ofBits, toSigned, toUnsigned}
 use Rattle.table.specs.Cases.{Right}
 use Rattle.float.specs.Round.{roundHalfAway}
@@ -10,13 +7,13 @@ use Rattle.float.specs.Root.{root}
 use Rattle.float.specs.Steps.{quantAr, sigma16Of}
 use Rattle.float.specs.Coefficient.{coefficient}
 use Rattle.float.specs.Sigma.{wholeSigma16, sumOfSquares}
-use Rattle.table.specs.Float.{sigmaCases, coefficientCases, rootCases, roundCases}
+use Rattle.table.specs.Float.{sigma, wholeSigma, sigmaCases, coefficientCases, rootCases, roundCases}
 
-pub sigma-cases-right : Right (λ (ds : List ℤ). sigma16Of (sumOfSquares ds) (length ds)) sigmaCases
+pub sigma-cases-right : Right sigma sigmaCases
 unfolding sigma16Of sumOfSquares mul div ofInt ofBits toUnsigned
 sigma-cases-right = (refl, (refl, (refl, (refl, (refl, (refl, (refl, tt)))))))
 
-pub whole-sigma-cases-right : Right (λ (ds : List ℤ). wholeSigma16 (sumOfSquares ds) (length ds)) sigmaCases
+pub whole-sigma-cases-right : Right wholeSigma sigmaCases
 unfolding wholeSigma16 sumOfSquares
 whole-sigma-cases-right = (refl, (refl, (refl, (refl, (refl, (refl, (refl, tt)))))))
 

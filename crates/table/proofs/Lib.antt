@@ -11,3 +11,4 @@ pub mod Reader
 pub mod Questions
 pub mod Positions
 pub mod Fit
+pub mod Table

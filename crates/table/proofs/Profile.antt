@@ -1,17 +1,32 @@
--- Every row of the tables holds, by computation. Assumes nothing.
-use mathlib.Core.Path.{refl}
+-- Every row of the tables holds, by computation; that the view of a whole plane is the plane spares looking at it place by place. Assumes nothing.
+use mathlib.Core.Path.{_≡_, refl}
+use Prim.Native.Nat.{_-_, _*_}
+use lib.ListN.{length}
 use lib.Ieee.{mul, div, ofInt, ofBits, toUnsigned}
 use Rattle.table.specs.Cases.{Right}
-use Rattle.frame.specs.Questions.{each, low, allLow}
+use Rattle.frame.specs.Questions.{accepted, each, low, allLow}
 use Rattle.frame.specs.Calls.{pairNumbers, pairRefusal}
+use Rattle.frame.proofs.Viewed.{viewed-whole}
 use Rattle.float.specs.Steps.{sigma16Of}
 use Rattle.profile.specs.Steps.{planeSquares, planeSigma16}
-use Rattle.profile.specs.Answers.{sigmaAnswer}
-use Rattle.table.specs.Profile.{sigma, sigmaCases, bin, binCases, least, leastCases}
+use Rattle.profile.specs.Answers.{sigmaOf, noSigma, sigmaAnswer}
+use Rattle.profile.specs.declared.Sigma.{Sigma}
+use Rattle.table.specs.Profile.{Call, sigma, sigmaCases, bin, binCases, least, leastCases}
+
+-- the answer of the planes themselves
+abbrev ofPlanes : Call → Sigma
+ofPlanes c =
+    let n = pairRefusal (c .width) (c .height) (c .depth) (c .source) (c .denoised) in
+    accepted n (sigmaOf (planeSigma16 (c .depth - 8) (c .source) (c .denoised))) (noSigma n)
+
+of-planes : (c : Call) {r : Sigma} → length (c .source) ≡ c .width * c .height → length (c .denoised) ≡ c .width * c .height → ofPlanes c ≡ r → sigma c ≡ r
+unfolding sigmaAnswer
+of-planes c e f g = rw (viewed-whole (c .width) (c .height) (c .source) e, viewed-whole (c .width) (c .height) (c .denoised) f) g
 
 pub sigma-cases-right : Right sigma sigmaCases
-unfolding sigmaAnswer pairRefusal pairNumbers each low allLow planeSigma16 planeSquares sigma16Of mul div ofInt ofBits toUnsigned
-sigma-cases-right = (refl, (refl, (refl, (refl, (refl, (refl, (refl, tt)))))))
+unfolding pairRefusal pairNumbers each low allLow planeSigma16 planeSquares sigma16Of mul div ofInt ofBits toUnsigned
+sigma-cases-right =
+    (of-planes _ refl refl refl, (of-planes _ refl refl refl, (of-planes _ refl refl refl, (of-planes _ refl refl refl, (of-planes _ refl refl refl, (of-planes _ refl refl refl, (of-planes _ refl refl refl, tt)))))))
 
 pub bin-cases-right : Right bin binCases
 bin-cases-right = (refl, (refl, (refl, (refl, (refl, tt)))))

@@ -4,7 +4,9 @@ use mathlib.Core.Bool.{true, false}
 use mathlib.Core.List.{List, [], _∷_}
 use lib.IntN.{ℤ, pos, negsuc, negℤ}
 use lib.Ieee.{Float, nan, inf, fin, binary64, ofBits}
-use lib.ListN.{replicate}
+use lib.ListN.{length, replicate}
+use Rattle.float.specs.Steps.{sigma16Of}
+use Rattle.float.specs.Sigma.{wholeSigma16, sumOfSquares}
 use Rattle.table.specs.Cases.{Case, row}
 
 -- m and −m
@@ -14,7 +16,15 @@ whole m = fin false m (pos 0)
 abbrev minus : ℕ → Float
 minus m = fin true m (pos 0)
 
--- Sigma16 of d, the shifted noise: 4 samples, 1,0,0,0; 1,024 samples, one of 1; 1,025 samples; −1 everywhere; 0 everywhere; 3 and −4, whose mean square is 25 / 2; an empty plane.
+-- sigma16 of d, the shifted noise
+abbrev pub sigma : List ℤ → ℕ
+sigma ds = sigma16Of (sumOfSquares ds) (length ds)
+
+-- by a whole root
+abbrev pub wholeSigma : List ℤ → ℕ
+wholeSigma ds = wholeSigma16 (sumOfSquares ds) (length ds)
+
+-- Sigma16: 4 samples, 1,0,0,0; 1,024 samples, one of 1; 1,025 samples; −1 everywhere; 0 everywhere; 3 and −4, whose mean square is 25 / 2; an empty plane.
 abbrev pub sigmaCases : List (Case (List ℤ) ℕ)
 sigmaCases =
     row (pos 1 ∷ replicate 3 (pos 0)) 8 ∷

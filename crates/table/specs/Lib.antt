@@ -12,3 +12,4 @@ pub mod Reader
 pub mod Questions
 pub mod Positions
 pub mod Fit
+pub mod Table

@@ -2,6 +2,7 @@
 use mathlib.Core.List.{List, [], _∷_}
 use Prim.Native.Nat.{ℕ}
 use Rattle.table.specs.Cases.{Case, row}
+use Rattle.random.specs.Register.{step}
 use Rattle.random.specs.declared.register.RandomRegister.{RandomRegister}
 use Rattle.random.specs.declared.register.Stepped.{Stepped}
 use Rattle.random.specs.declared.register.Draw.{Draw}
@@ -15,6 +16,9 @@ seeds =
     row 2 36443 ∷ []
 
 -- a register and the bits that it is asked for; the draw and the state afterwards
+abbrev pub asked : RandomRegister × ℕ → Stepped
+asked (register, bits) = step register bits
+
 abbrev pub drawn : ℕ → ℕ → Draw → ℕ → Case (RandomRegister × ℕ) Stepped
 drawn r bits draw after =
     record { input = (record { state = r }, bits); stated = record { draw = draw; register = record { state = after } } }

@@ -1,10 +1,10 @@
 -- `chroma_correlation::tap`: the exact sums as f64, then one division. Assumes nothing.
-use mathlib.Core.Path.{_∙_, ap}
+use mathlib.Core.Path.{_∙_}
 use borrow.Author.Needs.{needs}
-use lib.Ieee.{Float, binary64, div}
+use lib.Ieee.{binary64, div}
 use mir.Syntax.{w32}
 use mir.ValLaws.{toZ-ofZ}
-use Rattle.laws.specs.Constants.{four, sixteen}
+use Rattle.laws.proofs.Constants.{four-bits, sixteen-bits, tiny-bits}
 use Rattle.chroma_correlation.proofs.Averages.{in-sixteenths, in-quarters}
 use Rattle.chroma_correlation.proofs.Taps.{flat, quotient}
 use Rattle.chroma_correlation.proofs.tap.Statement.{statement}
@@ -13,15 +13,15 @@ use Rattle.chroma_correlation.proofs.tap.Tie as tie
 returns : tie.Need-returns
 returns c =
     let S = c .before .before in
-    flat _ _ _ (ap (λ (x : Float). div binary64 x sixteen) (c .before .nearest-i64-to-f64 .ensures) ∙ in-sixteenths (S .args .squares) (S .pre .1)) (c .if1 .taken)
+    flat _ _ _ ((λ i. div binary64 (c .before .nearest-i64-to-f64 .ensures i) (sixteen-bits i)) ∙ in-sixteenths (S .args .squares) (S .pre .1)) tiny-bits (c .if1 .taken)
 
 returns-2 : tie.Need-returns-2
 returns-2 c =
     let i = c .before .before in
     let S = i .before .before in
     toZ-ofZ w32 (c .quant-ar .result) (record { sfits = c .quant-ar .ok })
-    ∙ quotient _ _ _ (ap (λ (x : Float). div binary64 x sixteen) (i .before .nearest-i64-to-f64 .ensures) ∙ in-sixteenths (S .args .squares) (S .pre .1)) _ _
-    (ap (λ (x : Float). div binary64 x four) (c .before .nearest-i64-to-f642 .ensures) ∙ in-quarters (S .args .products) (S .pre .0)) (i .if1 .left) (c .quant-ar .ensures)
+    ∙ quotient _ _ _ ((λ j. div binary64 (i .before .nearest-i64-to-f64 .ensures j) (sixteen-bits j)) ∙ in-sixteenths (S .args .squares) (S .pre .1)) _ _
+    ((λ j. div binary64 (c .before .nearest-i64-to-f642 .ensures j) (four-bits j)) ∙ in-quarters (S .args .products) (S .pre .0)) tiny-bits (i .if1 .left) (c .quant-ar .ensures)
 
 pub tap-spec : {M : Type 1} → statement M
 tap-spec =

@@ -4,7 +4,7 @@
 -- Assumes nothing.
 use mathlib.Core.Path.{_≡_, sym, ap, _∙_}
 use Prim.Native.Nat.{ℕ, suc, _+_, _-_, _*_, _/_, _^_, _≤_, _<_}
-use native.Mathlib.Nat.{le-trans, le-of-eq, lt-of-lt-of-le, lt-of-not-le, not-le-of-lt, mul-comm, mul-assoc, mul-left-comm, mul-le-mul-right, mul-pos, add-mul, suc-mul, one-mul, mul-div-mul-right}
+use native.Mathlib.Nat.{le-trans, le-of-eq, lt-of-lt-of-le, lt-of-not-le, not-le-of-lt, mul-assoc, mul-left-comm, mul-le-mul-right, mul-pos, add-mul, suc-mul, one-mul, mul-div-mul-right}
 use native.Mathlib.Omega.{arith}
 use mathlib.Core.Bool.{false}
 use lib.Dec.{lit<}

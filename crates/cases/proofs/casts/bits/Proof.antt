@@ -1,6 +1,6 @@
 -- `cases::casts::bits`: what equals itself is no NaN. Assumes nothing.
 use mathlib.Core.Path.{_≡_, subst}
-use mathlib.Core.Bool.{Bool, true, false, not}
+use mathlib.Core.Bool.{false, not}
 use lib.Dec.{T}
 use lib.Ieee.{Float, nan, inf, fin, eq, ne, isNan}
 use borrow.Author.Needs.{needs}

@@ -1,6 +1,5 @@
 -- `frame::Shape::sampling` meets its contract. Assumes nothing.
 use borrow.Author.Needs.{needs}
-use Rattle.frame.specs.declared.view.Sampling.{Sampling}
 use Rattle.frame.proofs.Shape.sampling.Statement.{statement}
 use Rattle.frame.proofs.Shape.sampling.Tie as tie
 

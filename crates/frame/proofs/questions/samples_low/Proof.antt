@@ -1,6 +1,6 @@
 -- `frame::questions::samples_low` meets its contract. The invariants: the or so far answers for the samples passed, in each quarter and then from the front. The measures are what is left of a quarter and of the plane. Assumes nothing.
 use mathlib.Core.Path.{_≡_, refl}
-use Prim.Native.Nat.{_+_, _*_, _-_, _/_, _≤_}
+use Prim.Native.Nat.{_+_, _-_, _/_, _≤_}
 use native.Mathlib.Omega.{arith}
 use borrow.Author.Needs.{needs}
 use lib.ListN.{length}
