@@ -1,6 +1,6 @@
 //! The figures of one frame, and of it and the next. Field names are those of the JSON report (docs/REPORT.md).
 
-use crate::noise::{Autocorrelation, correlation, noise};
+use crate::noise::{Autocorrelation, correlation, energy, noise};
 use crate::reel::{Still, Task};
 use anyhow::Result;
 use grain::{ArFit, Chroma, Format, NoiseEstimate, Refusal, TwoFrames};
@@ -24,14 +24,21 @@ impl<T> Planes<T> {
             .filter_map(|(name, plane)| Some((name, plane.as_ref()?)));
         [("Y", &self.y)].into_iter().chain(chroma)
     }
-}
 
-impl Planes<Autocorrelation> {
-    pub fn add(&mut self, other: &Self) {
-        self.y.add(&other.y);
-        for (sums, more) in [(&mut self.cb, &other.cb), (&mut self.cr, &other.cr)] {
+    pub fn map<U>(&self, f: impl Fn(&T) -> U) -> Planes<U> {
+        Planes {
+            y: f(&self.y),
+            cb: self.cb.as_ref().map(&f),
+            cr: self.cr.as_ref().map(&f),
+        }
+    }
+
+    /// Adds each plane's figure to what is gathered of that plane.
+    pub fn add<U>(&mut self, more: &Planes<U>, add: impl Fn(&mut T, &U)) {
+        add(&mut self.y, &more.y);
+        for (sums, more) in [(&mut self.cb, &more.cb), (&mut self.cr, &more.cr)] {
             if let (Some(sums), Some(more)) = (sums, more) {
-                sums.add(more);
+                add(sums, more);
             }
         }
     }
@@ -61,7 +68,13 @@ pub struct ChromaTaps<T> {
 /// Noise by intensity. Sigma is the root mean square in 8-bit steps.
 #[derive(Debug, Clone, Serialize)]
 pub struct Profile {
+    /// Of noise cut to whole 8-bit steps, as the library has it.
     pub sigma: f64,
+    /// Of noise as it is; the command's own.
+    pub sigma_unshifted: f64,
+    /// The sum of squares behind that, in steps of the depth.
+    #[serde(skip)]
+    pub energy: u128,
     pub bins: Vec<Bin>,
 }
 
@@ -78,9 +91,14 @@ pub struct Bin {
 }
 
 impl Profile {
-    /// Of each bin its sigma, count and squares. For a sigma of its own a bin wants a hundredth of the samples, and no
+    /// Of each bin its sigma, count and squares; of the plane besides its energy in steps of the depth. For a sigma of its own a bin wants a hundredth of the samples, and no
     /// fewer than 64 of luma's eight bins or 32 of chroma's four.
-    pub fn new(sigma: f64, bins: impl IntoIterator<Item = (f64, u64, u64)>) -> Self {
+    pub fn new(
+        sigma: f64,
+        energy: u128,
+        depth: u8,
+        bins: impl IntoIterator<Item = (f64, u64, u64)>,
+    ) -> Self {
         let bins: Vec<_> = bins.into_iter().collect();
         let samples: u64 = bins.iter().map(|(_, count, _)| count).sum();
         let step = 256 / bins.len() as i32;
@@ -93,8 +111,11 @@ impl Profile {
             squares,
             own: count >= least,
         };
+        let mean = energy as f64 / samples.max(1) as f64;
         Profile {
             sigma,
+            sigma_unshifted: mean.sqrt() / f64::from(1u32 << (depth - 8)),
+            energy,
             bins: bins.into_iter().enumerate().map(bin).collect(),
         }
     }
@@ -102,16 +123,20 @@ impl Profile {
     pub fn samples(&self) -> u64 {
         self.bins.iter().map(|bin| bin.count).sum()
     }
-}
 
-impl<const BINS: usize> From<&grain::Profile<BINS>> for Profile {
-    fn from(found: &grain::Profile<BINS>) -> Self {
+    /// The library's figures of a plane, and the sigma of its noise before that is cut to 8-bit steps.
+    fn of<const BINS: usize>(
+        found: &grain::Profile<BINS>,
+        [source, denoised]: [&[u16]; 2],
+        depth: u8,
+    ) -> Self {
         let steps = |sigma16: u64| sigma16 as f64 / 16.0;
         let bins = found
             .bins
             .iter()
             .map(|bin| (steps(bin.sigma16), bin.count, bin.squares));
-        Profile::new(steps(found.sigma16), bins)
+        let energy = energy(source, denoised).into();
+        Profile::new(steps(found.sigma16), energy, depth, bins)
     }
 }
 
@@ -194,6 +219,40 @@ impl<T> Fit<T> {
     }
 }
 
+impl<T> ChromaFit<T> {
+    fn map<U>(&self, f: &impl Fn(&T) -> U) -> ChromaFit<U> {
+        ChromaFit {
+            coefficients: self.coefficients.iter().map(f).collect(),
+            luma_tap: f(&self.luma_tap),
+        }
+    }
+}
+
+impl<T> Fit<T> {
+    pub fn map<U>(&self, f: impl Fn(&T) -> U) -> Fit<U> {
+        Fit {
+            lag: self.lag,
+            y: self.y.iter().map(&f).collect(),
+            cb: self.cb.as_ref().map(|fit| fit.map(&f)),
+            cr: self.cr.as_ref().map(|fit| fit.map(&f)),
+        }
+    }
+
+    /// Adds each coefficient to what is gathered of it.
+    pub fn add<U>(&mut self, more: &Fit<U>, add: impl Fn(&mut T, &U)) {
+        let each = |sums: &mut [T], more: &[U]| {
+            sums.iter_mut().zip(more).for_each(|(s, m)| add(s, m));
+        };
+        each(&mut self.y, &more.y);
+        for (sums, more) in [(&mut self.cb, &more.cb), (&mut self.cr, &more.cr)] {
+            if let (Some(sums), Some(more)) = (sums, more) {
+                each(&mut sums.coefficients, &more.coefficients);
+                add(&mut sums.luma_tap, &more.luma_tap);
+            }
+        }
+    }
+}
+
 impl Fit<i32> {
     fn new(found: ArFit, colour: bool) -> Self {
         let chroma = |mut coefficients: Vec<i32>| {
@@ -225,13 +284,17 @@ pub fn figures(task: &Task) -> Result<FrameFigures> {
         Ok(found.map(|found| Fit::new(found, colour)))
     };
     let gates = |second: &Arc<Still>| gates(still, second, &estimate);
+    let (source, denoised, depth) = (pair.frame(), pair.denoised(), pair.shape().depth);
+    let chroma = |found, source, denoised| {
+        colour.then(|| Profile::of::<4>(found, [source, denoised], depth))
+    };
     Ok(FrameFigures {
         frame: still.index,
         seed: grain::grain_seed_for(still.index as u32),
         profile: Planes {
-            y: (&estimate.luma).into(),
-            cb: colour.then(|| (&estimate.cb).into()),
-            cr: colour.then(|| (&estimate.cr).into()),
+            y: Profile::of(&estimate.luma, [source.y, denoised.y], depth),
+            cb: chroma(&estimate.cb, source.cb, denoised.cb),
+            cr: chroma(&estimate.cr, source.cr, denoised.cr),
         },
         gates: task.second.as_ref().map(gates).transpose()?,
         fits: (1..=3).map(fit).collect::<Result<_>>()?,

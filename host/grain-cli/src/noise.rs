@@ -25,6 +25,20 @@ fn dot(a: &[i16], b: &[i16]) -> i64 {
     a.chunks(64).zip(b.chunks(64)).map(block).sum()
 }
 
+/// The sum of squares, in steps of the samples' own depth.
+pub fn energy(source: &[u16], denoised: &[u16]) -> u64 {
+    let block = |(source, denoised): (&[u16], &[u16])| -> u64 {
+        let square = |(&s, &d): (&u16, &u16)| (u32::from(s.abs_diff(d))).pow(2);
+        source.iter().zip(denoised).map(square).sum::<u32>().into()
+    };
+    // A square is below 2^24.
+    source
+        .chunks(128)
+        .zip(denoised.chunks(128))
+        .map(block)
+        .sum()
+}
+
 /// cross / root(e0 × e1) of two frames' noises, as the gates have it; `None` where one has no energy.
 ///
 /// Each frame is its source and its denoised plane.
@@ -133,6 +147,16 @@ mod tests {
                 }
             }
         }
+    }
+
+    #[test]
+    fn energy_is_the_sum_of_squares() {
+        let (source, denoised) = planes(100, 7);
+        let noise = noise(&source, &denoised);
+        let sum: i64 = noise.iter().map(|&n| i64::from(n).pow(2)).sum();
+        assert_eq!(energy(&source, &denoised), sum as u64);
+        let (most, least) = (vec![4095; 1000], vec![0; 1000]);
+        assert_eq!(energy(&least, &most), 1000 * 4095 * 4095);
     }
 
     #[test]

@@ -1,7 +1,9 @@
-//! The figures of a clip: its frames' figures taken together. Field names are those of the JSON report.
+//! The figures of a clip: its frames' figures taken together, one frame after another, so that none is kept. Field names
+//! are those of the JSON report.
 
-use crate::figures::{ChromaFit, ChromaTaps, Fit, FrameFigures, Gate, Planes, Profile};
+use crate::figures::{ChromaTaps, Fit, FrameFigures, Gate, Planes, Profile};
 use crate::reel::Reel;
+use crate::verdict::Verdict;
 use serde::Serialize;
 
 #[derive(Debug, Clone, Serialize)]
@@ -13,7 +15,8 @@ pub struct ClipFigures {
     pub height: usize,
     pub depth: u8,
     pub format: &'static str,
-    /// Frames read, and frames that have figures.
+    /// The first frame taken, how many were taken, and how many of those have figures.
+    pub from: usize,
     pub frames: usize,
     pub reported: usize,
     /// Of all reported frames' samples together.
@@ -23,6 +26,25 @@ pub struct ClipFigures {
     /// At lags 1, 2 and 3; `None` where no frame has a fit.
     pub fits: Vec<Option<ClipFit>>,
     pub chroma_taps: Option<ChromaTaps<Spread>>,
+    pub verdict: Verdict,
+}
+
+impl ClipFigures {
+    /// Size, depth, format and frames, in words.
+    pub fn about(&self) -> String {
+        let (w, h, depth, format) = (self.width, self.height, self.depth, self.format);
+        let mut words = match self.frames {
+            1 => format!("{w}×{h}, {depth} bits, {format}, 1 frame"),
+            n => format!("{w}×{h}, {depth} bits, {format}, {n} frames"),
+        };
+        if self.from > 0 {
+            words += &format!(" from {}", self.from);
+        }
+        if self.reported != self.frames {
+            words += &format!(", {} reported", self.reported);
+        }
+        words
+    }
 }
 
 #[derive(Debug, Clone, Serialize)]
@@ -54,110 +76,193 @@ pub struct ClipFit {
     pub fit: Fit<Spread>,
 }
 
-impl Spread {
-    fn of(values: impl IntoIterator<Item = f64>) -> Option<Self> {
-        let values: Vec<f64> = values.into_iter().collect();
-        let least = values.iter().copied().reduce(f64::min)?;
-        let most = values.iter().copied().reduce(f64::max)?;
-        let mean = values.iter().sum::<f64>() / values.len() as f64;
-        Some(Spread { mean, least, most })
-    }
+/// What is gathered of a clip so far.
+#[derive(Default)]
+pub struct Tally {
+    reported: usize,
+    profile: Option<Planes<ProfileTally>>,
+    gates: Option<Planes<GateTally>>,
+    fits: [Option<FitTally>; 3],
+    taps: Option<ChromaTaps<Running>>,
 }
 
-impl ClipFigures {
-    pub fn new(reel: &Reel, frames: &[FrameFigures]) -> Self {
+impl Tally {
+    pub fn add(&mut self, frame: &FrameFigures) {
+        self.reported += 1;
+        self.profile
+            .get_or_insert_with(|| frame.profile.map(ProfileTally::none))
+            .add(&frame.profile, ProfileTally::add);
+        if let Some(gates) = &frame.gates {
+            self.gates
+                .get_or_insert_with(|| gates.map(GateTally::none))
+                .add(gates, GateTally::add);
+        }
+        for (tally, fit) in self.fits.iter_mut().zip(&frame.fits) {
+            if let Some(fit) = fit {
+                tally.get_or_insert_with(|| FitTally::none(fit)).add(fit);
+            }
+        }
+        if let Some(found) = &frame.chroma_taps {
+            let none = || ChromaTaps {
+                cb: Running::default(),
+                cr: Running::default(),
+            };
+            let taps = self.taps.get_or_insert_with(none);
+            taps.cb.add(found.cb.into());
+            taps.cr.add(found.cr.into());
+        }
+    }
+
+    /// The clip's figures; `None` where no frame was added.
+    pub fn clip(&self, reel: &Reel) -> Option<ClipFigures> {
         let shape = reel.shape();
-        ClipFigures {
+        let gates = self.gates.as_ref().map(|gates| gates.map(GateTally::count));
+        let fit = |tally: &FitTally| ClipFit {
+            fitted: tally.fitted,
+            fit: tally.fit.map(Running::spread),
+        };
+        let fits: Vec<_> = self.fits.iter().map(|of| of.as_ref().map(fit)).collect();
+        let denoised = reel.copy.as_ref().map(|copy| copy.name.clone());
+        Some(ClipFigures {
             name: reel.clip.name.clone(),
-            denoised: reel.copy.as_ref().map(|copy| copy.name.clone()),
             width: shape.width,
             height: shape.height,
             depth: shape.depth,
             format: shape.format.name(),
+            from: reel.from(),
             frames: reel.frames(),
-            reported: frames.len(),
-            profile: gathered(frames.iter().map(|f| &f.profile), pooled).expect("a frame"),
-            gates: gathered(frames.iter().filter_map(|f| f.gates.as_ref()), counted),
-            fits: (0..3).map(|at| fits(frames, at)).collect(),
-            chroma_taps: taps(frames),
+            reported: self.reported,
+            profile: self.profile.as_ref()?.map(|of| of.profile(shape.depth)),
+            chroma_taps: self.taps.as_ref().map(|taps| ChromaTaps {
+                cb: taps.cb.spread(),
+                cr: taps.cr.spread(),
+            }),
+            verdict: Verdict::new(gates.as_ref(), &fits, denoised.is_some()),
+            denoised,
+            gates,
+            fits,
+        })
+    }
+}
+
+/// A figure over the frames so far.
+#[derive(Debug, Clone, Copy, Default)]
+struct Running {
+    count: usize,
+    sum: f64,
+    least: f64,
+    most: f64,
+}
+
+impl Running {
+    fn add(&mut self, value: f64) {
+        let first = self.count == 0;
+        self.least = if first { value } else { self.least.min(value) };
+        self.most = if first { value } else { self.most.max(value) };
+        self.sum += value;
+        self.count += 1;
+    }
+
+    fn spread(&self) -> Spread {
+        Spread {
+            mean: self.sum / self.count.max(1) as f64,
+            least: self.least,
+            most: self.most,
         }
     }
 }
 
-/// One figure of each plane from the frames' figures of that plane.
-fn gathered<'a, T: 'a, U>(
-    frames: impl Iterator<Item = &'a Planes<T>>,
-    together: impl Fn(Vec<&'a T>) -> U,
-) -> Option<Planes<U>> {
-    let frames: Vec<_> = frames.collect();
-    let all = |plane: fn(&Planes<T>) -> Option<&T>| -> Option<U> {
-        let plane: Vec<_> = frames.iter().filter_map(|f| plane(f)).collect();
-        (!plane.is_empty()).then(|| together(plane))
-    };
-    Some(Planes {
-        y: all(|f| Some(&f.y))?,
-        cb: all(|f| f.cb.as_ref()),
-        cr: all(|f| f.cr.as_ref()),
-    })
-}
-
 /// The profile of all samples: counts and squares add up.
-fn pooled(frames: Vec<&Profile>) -> Profile {
-    let sum = |at: usize| {
-        let bins = frames.iter().map(|profile| &profile.bins[at]);
-        bins.fold((0, 0), |(n, s), bin| (n + bin.count, s + bin.squares))
-    };
-    let bins: Vec<(u64, u64)> = (0..frames[0].bins.len()).map(sum).collect();
-    let sigma = |(count, squares): (u64, u64)| (squares as f64 / count.max(1) as f64).sqrt();
-    let plane = sigma(bins.iter().fold((0, 0), |a, b| (a.0 + b.0, a.1 + b.1)));
-    let mut profile = Profile::new(plane, bins.iter().map(|&bin| (sigma(bin), bin.0, bin.1)));
-    for bin in profile.bins.iter_mut().filter(|bin| !bin.own) {
-        bin.sigma = plane;
+struct ProfileTally {
+    /// Of each bin its count and squares.
+    bins: Vec<(u64, u64)>,
+    energy: u128,
+}
+
+impl ProfileTally {
+    fn none(like: &Profile) -> Self {
+        ProfileTally {
+            bins: vec![(0, 0); like.bins.len()],
+            energy: 0,
+        }
     }
-    profile
-}
 
-fn counted(pairs: Vec<&Gate>) -> GateCount {
-    GateCount {
-        first: pairs[0].grain,
-        why: pairs[0].why,
-        pairs: pairs.len(),
-        passed: pairs.iter().filter(|gate| gate.grain).count(),
-        row_correlation: Spread::of(pairs.iter().map(|gate| gate.row_correlation)),
-        frame_correlation: Spread::of(pairs.iter().filter_map(|gate| gate.frame_correlation)),
+    fn add(&mut self, more: &Profile) {
+        for (sums, bin) in self.bins.iter_mut().zip(&more.bins) {
+            *sums = (sums.0 + bin.count, sums.1 + bin.squares);
+        }
+        self.energy += more.energy;
+    }
+
+    fn profile(&self, depth: u8) -> Profile {
+        let sigma = |(count, squares): (u64, u64)| (squares as f64 / count.max(1) as f64).sqrt();
+        let all = self.bins.iter().fold((0, 0), |a, b| (a.0 + b.0, a.1 + b.1));
+        let bins = self.bins.iter().map(|&bin| (sigma(bin), bin.0, bin.1));
+        let mut profile = Profile::new(sigma(all), self.energy, depth, bins);
+        for bin in profile.bins.iter_mut().filter(|bin| !bin.own) {
+            bin.sigma = profile.sigma;
+        }
+        profile
     }
 }
 
-/// The spread of each coefficient over the frames that have a fit.
-fn fits(frames: &[FrameFigures], at: usize) -> Option<ClipFit> {
-    let found: Vec<_> = frames.iter().filter_map(|f| f.fits[at].as_ref()).collect();
-    let each = |lists: Vec<&Vec<i32>>| -> Vec<Spread> {
-        let one = |i: usize| Spread::of(lists.iter().map(|list| list[i].into()));
-        let count = lists.first().map_or(0, |list| list.len());
-        (0..count).filter_map(one).collect()
-    };
-    let chroma = |plane: fn(&Fit<i32>) -> Option<&ChromaFit<i32>>| {
-        let found: Vec<_> = found.iter().filter_map(|fit| plane(fit)).collect();
-        Some(ChromaFit {
-            luma_tap: Spread::of(found.iter().map(|fit| fit.luma_tap.into()))?,
-            coefficients: each(found.iter().map(|fit| &fit.coefficients).collect()),
-        })
-    };
-    Some(ClipFit {
-        fitted: found.len(),
-        fit: Fit {
-            lag: found.first()?.lag,
-            y: each(found.iter().map(|fit| &fit.y).collect()),
-            cb: chroma(|fit| fit.cb.as_ref()),
-            cr: chroma(|fit| fit.cr.as_ref()),
-        },
-    })
+struct GateTally {
+    first: bool,
+    why: Option<&'static str>,
+    passed: usize,
+    row: Running,
+    between: Running,
 }
 
-fn taps(frames: &[FrameFigures]) -> Option<ChromaTaps<Spread>> {
-    let found = || frames.iter().filter_map(|f| f.chroma_taps);
-    Some(ChromaTaps {
-        cb: Spread::of(found().map(|taps| taps.cb.into()))?,
-        cr: Spread::of(found().map(|taps| taps.cr.into()))?,
-    })
+impl GateTally {
+    /// Before the pair is added that gives the first answer.
+    fn none(first: &Gate) -> Self {
+        GateTally {
+            first: first.grain,
+            why: first.why,
+            passed: 0,
+            row: Running::default(),
+            between: Running::default(),
+        }
+    }
+
+    fn add(&mut self, pair: &Gate) {
+        self.passed += usize::from(pair.grain);
+        self.row.add(pair.row_correlation);
+        if let Some(between) = pair.frame_correlation {
+            self.between.add(between);
+        }
+    }
+
+    fn count(&self) -> GateCount {
+        let some = |of: &Running| (of.count > 0).then(|| of.spread());
+        GateCount {
+            first: self.first,
+            why: self.why,
+            pairs: self.row.count,
+            passed: self.passed,
+            row_correlation: some(&self.row),
+            frame_correlation: some(&self.between),
+        }
+    }
+}
+
+/// The coefficients over the frames that have a fit.
+struct FitTally {
+    fitted: usize,
+    fit: Fit<Running>,
+}
+
+impl FitTally {
+    fn none(like: &Fit<i32>) -> Self {
+        FitTally {
+            fitted: 0,
+            fit: like.map(|_| Running::default()),
+        }
+    }
+
+    fn add(&mut self, more: &Fit<i32>) {
+        self.fitted += 1;
+        self.fit.add(more, |sums, &value| sums.add(value.into()));
+    }
 }

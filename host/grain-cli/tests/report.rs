@@ -168,6 +168,9 @@ fn passes(plane: &str, gate: &Value) -> bool {
 
 /// The report's frame with what only the report has taken out: a gate becomes its sigma and answer, a bin its numbers.
 fn plain(mut frame: Value) -> Value {
+    for name in ["schema", "kind"] {
+        frame.as_object_mut().unwrap().remove(name).unwrap();
+    }
     for plane in ["y", "cb", "cr"] {
         let gate = &mut frame["gates"];
         if gate.is_object() && gate[plane].is_object() {
@@ -175,7 +178,8 @@ fn plain(mut frame: Value) -> Value {
             gate[plane] = json!([gate[plane]["sigma"], gate[plane]["grain"]]);
         }
         let profile = &mut frame["profile"][plane];
-        if profile.is_object() {
+        if let Some(profile) = profile.as_object_mut() {
+            profile.remove("sigma_unshifted").unwrap();
             let bins = profile["bins"].as_array_mut().unwrap();
             bins.iter_mut()
                 .for_each(|bin| *bin = json!([bin["sigma"], bin["count"], bin["squares"]]));

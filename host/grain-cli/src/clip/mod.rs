@@ -1,5 +1,6 @@
 //! YUV4MPEG2 clips: a header line, then for each frame a line and its planes, 16 bits little-endian above 8.
 
+mod colour;
 mod header;
 mod reader;
 mod writer;

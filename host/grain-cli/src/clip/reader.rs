@@ -1,5 +1,6 @@
 use super::header::MAGIC;
 use super::{Header, Picture};
+use crate::files::{Stream, shown};
 use anyhow::{Context, Result, bail};
 use std::fs::File;
 use std::io::{self, BufRead, BufReader, Read};
@@ -18,6 +19,8 @@ pub struct Reader {
     input: BufReader<Box<dyn Read + Send>>,
     /// Frames read or passed over.
     at: usize,
+    /// The first frame that is wanted.
+    pub from: usize,
     bytes: Vec<u8>,
 }
 
@@ -25,9 +28,13 @@ impl Reader {
     /// Opens a clip and reads its header; `-` is standard input.
     pub fn open(path: &Path) -> Result<Self> {
         let (name, input, length): (_, Box<dyn Read + Send>, _) = if path == Path::new("-") {
-            ("standard input".to_string(), Box::new(io::stdin()), None)
+            (
+                Stream::Input.name().to_string(),
+                Box::new(io::stdin()),
+                None,
+            )
         } else {
-            let name = path.display().to_string();
+            let name = shown(path);
             let file = File::open(path).with_context(|| name.clone())?;
             let about = file.metadata().with_context(|| name.clone())?;
             if about.is_dir() {
@@ -48,6 +55,7 @@ impl Reader {
             expected,
             input,
             at: 0,
+            from: 0,
             bytes: Vec::new(),
         })
     }
@@ -133,8 +141,9 @@ impl Reader {
 
     /// What can still be had of a damaged clip.
     fn before(&self) -> String {
-        match self.at {
-            0 => "No frame before it is whole.".to_string(),
+        match self.at.saturating_sub(self.from) {
+            0 if self.at == 0 => "No frame before it is whole.".to_string(),
+            0 => format!("--from {} leaves no whole frame before it.", self.from),
             n => format!("What is before it is whole: --frames {n} takes that."),
         }
     }
