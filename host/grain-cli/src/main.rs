@@ -10,6 +10,7 @@ mod man;
 mod noise;
 mod output;
 mod plot;
+mod pool;
 mod progress;
 mod reel;
 mod refused;

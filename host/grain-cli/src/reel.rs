@@ -1,6 +1,7 @@
 //! A clip with its denoised copy, handed out frame by frame to every core.
 
 use crate::clip::{Picture, Reader};
+use crate::pool::Pool;
 use crate::progress::Progress;
 use crate::say::say;
 use crate::{refused, stop};
@@ -19,8 +20,19 @@ pub struct Still {
     /// What it belongs to, in messages.
     name: Arc<str>,
     shape: Shape,
+    pool: Arc<Pool>,
     source: Picture,
     denoised: OnceLock<Result<Picture, Refusal>>,
+}
+
+/// Its pictures are used again.
+impl Drop for Still {
+    fn drop(&mut self) {
+        let source = std::mem::take(&mut self.source);
+        let denoised = self.denoised.take().and_then(Result::ok);
+        let pictures = [Some(source), denoised].into_iter().flatten();
+        pictures.for_each(|picture| self.pool.give(picture));
+    }
 }
 
 impl Still {
@@ -30,7 +42,7 @@ impl Still {
 
     pub fn denoised_picture(&self) -> Result<&Picture> {
         let made = self.denoised.get_or_init(|| {
-            let mut copy = Picture::blank(self.shape);
+            let mut copy = self.pool.take();
             copy.words.clone_from(&self.source.words);
             grain::denoise_frame(&self.source(), &mut copy.y, &mut copy.cb, &mut copy.cr)?;
             Ok(copy)
@@ -91,6 +103,7 @@ pub struct Reel {
     pub copy: Option<Reader>,
     /// Both, in messages.
     name: Arc<str>,
+    pool: Arc<Pool>,
     part: Part,
     /// The next frame to read, and the next to work on.
     at: usize,
@@ -129,6 +142,7 @@ impl Reel {
             None => clip.name.as_str().into(),
         };
         Ok(Reel {
+            pool: Arc::new(Pool::new(clip.header.shape)),
             clip,
             copy,
             name,
@@ -160,9 +174,7 @@ impl Reel {
         mut done: impl FnMut(T) -> Result<bool>,
     ) -> Result<()> {
         let frame = 4 * (self.shape().luma_samples() + 2 * self.shape().chroma_samples());
-        let size = (2 * rayon::current_num_threads())
-            .min(ROUND_BYTES / frame)
-            .max(1);
+        let size = rayon::current_num_threads().min(ROUND_BYTES / frame).max(1);
         let expected = self
             .clip
             .expected
@@ -230,28 +242,22 @@ impl Reel {
         if self.at >= self.part.end() {
             return Ok(None);
         }
-        let source = self.clip.picture()?;
-        let denoised = match &mut self.copy {
-            None => None,
-            Some(copy) => {
-                let picture = copy.picture()?;
-                both(
-                    &self.clip,
-                    copy,
-                    source.is_some(),
-                    picture.is_some(),
-                    self.at,
-                )?;
-                picture
-            }
-        };
-        let Some(source) = source else {
+        let mut source = self.pool.take();
+        let there = self.clip.picture(&mut source)?;
+        let mut denoised = None;
+        if let Some(copy) = &mut self.copy {
+            let picture = denoised.insert(self.pool.take());
+            let of_copy = copy.picture(picture)?;
+            both(&self.clip, copy, there, of_copy, self.at)?;
+        }
+        if !there {
             return Ok(None);
-        };
+        }
         let still = Still {
             index: self.at,
             name: self.name.clone(),
             shape: self.shape(),
+            pool: self.pool.clone(),
             source,
             denoised: denoised.map_or_else(OnceLock::new, |picture| OnceLock::from(Ok(picture))),
         };

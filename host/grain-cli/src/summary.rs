@@ -123,6 +123,7 @@ impl Tally {
         };
         let fits: Vec<_> = self.fits.iter().map(|of| of.as_ref().map(fit)).collect();
         let denoised = reel.copy.as_ref().map(|copy| copy.name.clone());
+        let profile = self.profile.as_ref()?.map(|of| of.profile(shape.depth));
         Some(ClipFigures {
             name: reel.clip.name.clone(),
             width: shape.width,
@@ -132,13 +133,13 @@ impl Tally {
             from: reel.from(),
             frames: reel.frames(),
             reported: self.reported,
-            profile: self.profile.as_ref()?.map(|of| of.profile(shape.depth)),
             chroma_taps: self.taps.as_ref().map(|taps| ChromaTaps {
                 cb: taps.cb.spread(),
                 cr: taps.cr.spread(),
             }),
-            verdict: Verdict::new(gates.as_ref(), &fits, denoised.is_some()),
+            verdict: Verdict::new(&profile, gates.as_ref(), &fits, denoised.is_some()),
             denoised,
+            profile,
             gates,
             fits,
         })

@@ -1,12 +1,13 @@
 //! What a clip's figures come to, in a sentence: grain or not, at which lag, because of what. The answers are the
 //! library's gates'; the lag is the command's own reading of the fits.
 
-use crate::figures::Planes;
+use crate::figures::{Planes, Profile};
 use crate::summary::{ClipFit, GateCount, Spread};
 use serde::Serialize;
 
-/// A coefficient counts from so many 64ths on.
+/// A coefficient counts from so many 64ths on, and from so many times what chance makes of none.
 const COUNTS: f64 = 2.0;
+const CHANCE: f64 = 4.0;
 
 /// What is said wherever the built-in denoiser made the copy.
 pub const CAUTION: &str = "The denoised copy is the built-in denoiser's, so picture detail counts as noise: \
@@ -25,6 +26,7 @@ pub struct Verdict {
 
 impl Verdict {
     pub fn new(
+        profile: &Planes<Profile>,
         gates: Option<&Planes<GateCount>>,
         fits: &[Option<ClipFit>],
         copy_given: bool,
@@ -53,7 +55,7 @@ impl Verdict {
                 caution,
             };
         }
-        let (lag, because) = lag(gates, fits);
+        let (lag, because) = lag(profile, gates, fits);
         Verdict {
             grain: Some(true),
             lag: Some(lag),
@@ -67,22 +69,33 @@ impl Verdict {
 }
 
 /// The least lag that is enough for the planes with grain, and a sentence that says why.
-fn lag(gates: &Planes<GateCount>, fits: &[Option<ClipFit>]) -> (u8, String) {
+fn lag(
+    profile: &Planes<Profile>,
+    gates: &Planes<GateCount>,
+    fits: &[Option<ClipFit>],
+) -> (u8, String) {
     let Some(ClipFit { fit, .. }) = fits.iter().rev().flatten().next() else {
         return (0, "Lag 0, since there is no fit at any lag.".to_string());
     };
     let places = grain::ar_positions(fit.lag.into()).expect("a fit has a lag of 1 to 3");
-    let grainy = gates.named().filter(|(_, gate)| gate.first);
-    let means: Vec<(u8, f64)> = grainy
-        .filter_map(|(name, _)| fit.plane(name))
-        .flat_map(|(coefficients, _)| places.iter().zip(coefficients))
-        .map(|(&(row, column), of): (_, &Spread)| {
-            let ring = row.abs().max(column.abs());
-            (ring as u8, of.mean.abs())
-        })
-        .collect();
-    let counting = means.iter().filter(|(_, mean)| *mean >= COUNTS);
-    let lag = counting.map(|(ring, _)| *ring).max().unwrap_or(0);
+    // How far off each neighbour is, and its mean.
+    let mut means: Vec<(u8, f64)> = Vec::new();
+    let mut lag = 0;
+    for ((name, gate), (_, profile)) in gates.named().zip(profile.named()) {
+        let coefficients = fit.plane(name).map_or(&[][..], |(of, _)| of);
+        if !gate.first {
+            continue;
+        }
+        let chance = 64.0 / (profile.samples() as f64).sqrt();
+        let counts = COUNTS.max(CHANCE * chance);
+        for (&(row, column), Spread { mean, .. }) in places.iter().zip(coefficients) {
+            let ring = row.abs().max(column.abs()) as u8;
+            means.push((ring, mean.abs()));
+            if mean.abs() >= counts {
+                lag = lag.max(ring);
+            }
+        }
+    }
     let most = |rings: std::ops::RangeInclusive<u8>| {
         let there = means.iter().filter(|(ring, _)| rings.contains(ring));
         there.map(|(_, mean)| *mean).fold(0.0, f64::max)

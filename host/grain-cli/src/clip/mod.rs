@@ -12,6 +12,7 @@ pub use writer::Writer;
 use grain::{Frame, Shape};
 
 /// One frame's planes, and what its line says after the word FRAME.
+#[derive(Default)]
 pub struct Picture {
     pub words: String,
     pub y: Vec<u16>,

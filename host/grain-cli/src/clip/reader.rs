@@ -60,11 +60,12 @@ impl Reader {
         })
     }
 
-    /// The next frame, or `None` at the end of the clip.
-    pub fn picture(&mut self) -> Result<Option<Picture>> {
+    /// Reads the next frame into a picture of the clip's shape; false at the end of the clip.
+    pub fn picture(&mut self, picture: &mut Picture) -> Result<bool> {
         let Some(words) = self.frame_line()? else {
-            return Ok(None);
+            return Ok(false);
         };
+        picture.words = words;
         self.bytes.clear();
         let wanted = self.header.frame_bytes();
         let got = (&mut self.input)
@@ -72,25 +73,23 @@ impl Reader {
             .read_to_end(&mut self.bytes)
             .with_context(|| self.name.clone())?;
         self.whole(got)?;
-        let shape = self.header.shape;
         let wide = self.header.bytes_per_sample();
-        let (y, chroma) = self.bytes.split_at(shape.luma_samples() * wide);
-        let (cb, cr) = chroma.split_at(shape.chroma_samples() * wide);
-        let samples = |plane: &[u8]| -> Vec<u16> {
+        let mut rest = &self.bytes[..];
+        for plane in [&mut picture.y, &mut picture.cb, &mut picture.cr] {
+            let (bytes, after) = rest.split_at(plane.len() * wide);
+            rest = after;
             match wide {
-                1 => plane.iter().map(|&byte| byte.into()).collect(),
+                1 => plane
+                    .iter_mut()
+                    .zip(bytes)
+                    .for_each(|(s, &b)| *s = b.into()),
                 _ => plane
-                    .chunks_exact(2)
-                    .map(|pair| u16::from_le_bytes([pair[0], pair[1]]))
-                    .collect(),
+                    .iter_mut()
+                    .zip(bytes.chunks_exact(2))
+                    .for_each(|(s, pair)| *s = u16::from_le_bytes([pair[0], pair[1]])),
             }
-        };
-        Ok(Some(Picture {
-            words,
-            y: samples(y),
-            cb: samples(cb),
-            cr: samples(cr),
-        }))
+        }
+        Ok(true)
     }
 
     /// Passes over the next frame; false at the end of the clip.
