@@ -6,7 +6,7 @@ use common::{Planes, clip, command, folder, json, run, sample, shapes, written};
 use grain::{Chroma, Format, Pair, Shape, TwoFrames};
 use serde_json::{Value, json};
 use std::fs;
-use std::io::{Read, Write};
+use std::io::Write;
 use std::process::Stdio;
 
 /// Coefficients that the sample's script states, by the name it gives them.
@@ -316,25 +316,87 @@ fn the_plot_is_whole_or_not_there() {
     assert_eq!(fs::read_dir(&folder).unwrap().count(), 1, "only noise.svg");
 }
 
+/// The run ends without a word, and a plot is drawn all the same.
 #[test]
 fn a_reader_may_go_away() {
-    let (folder, _) = sample();
-    let mut child = command(folder, &["report", "-"])
-        .stdin(Stdio::piped())
-        .stdout(Stdio::piped())
-        .stderr(Stdio::piped())
-        .spawn()
-        .unwrap();
-    drop(child.stdout.take());
-    let bytes = fs::read(folder.join("grain.y4m")).unwrap();
-    child.stdin.take().unwrap().write_all(&bytes).unwrap();
-    let mut said = String::new();
-    child
-        .stderr
-        .take()
-        .unwrap()
-        .read_to_string(&mut said)
-        .unwrap();
-    assert!(child.wait().unwrap().success());
-    assert_eq!(said, "");
+    let (samples, _) = sample();
+    let folder = folder("gone");
+    let bytes = fs::read(samples.join("grain.y4m")).unwrap();
+    for words in [
+        &["report", "-"][..],
+        &["report", "-", "--plot", "noise.svg"],
+    ] {
+        let mut child = command(&folder, words)
+            .stdin(Stdio::piped())
+            .stdout(Stdio::piped())
+            .stderr(Stdio::piped())
+            .spawn()
+            .unwrap();
+        drop(child.stdout.take());
+        // The command may go away too.
+        let _ = child.stdin.take().unwrap().write_all(&bytes);
+        let run = child.wait_with_output().unwrap();
+        assert!(run.status.success());
+        assert_eq!(String::from_utf8(run.stderr).unwrap(), "");
+    }
+    let drawn = fs::read_to_string(folder.join("noise.svg")).unwrap();
+    assert!(drawn.contains("6 frames") && drawn.trim_end().ends_with("</svg>"));
+}
+
+/// Names are shortened and escaped, one minus sign is used, and a monochrome clip has one autocorrelation beside its
+/// profile, whose axis ends above its data.
+#[test]
+fn what_the_plot_says() {
+    let (samples, _) = sample();
+    let folder = folder("plot-words");
+    let clip = samples.join("grain.y4m");
+    let [clip, copy] = [
+        clip.to_str().unwrap(),
+        &clip
+            .with_file_name("clean.y4m")
+            .to_str()
+            .unwrap()
+            .to_string(),
+    ];
+    let drawn = |words: &[&str]| {
+        written(
+            &folder,
+            &[
+                &["report"],
+                words,
+                &["--brief", "--plot", "noise.svg", "--force"],
+            ]
+            .concat(),
+        );
+        fs::read_to_string(folder.join("noise.svg")).unwrap()
+    };
+    let svg = drawn(&[clip]);
+    let about = "320×240, 10 bits, 4:2:0, 6 frames; source less the built-in denoiser&apos;s copy";
+    assert!(svg.replace('\'', "&apos;").contains(about), "{svg}");
+    assert!(
+        svg.contains("\ncorrelation\n") && svg.contains("\n−5\n"),
+        "{svg}"
+    );
+    assert!(!svg.contains("\n-"), "a hyphen for a minus");
+    let svg = drawn(&[clip, "--denoised", copy]);
+    assert!(svg.contains("6 frames; source less clean.y4m"), "{svg}");
+    let signs = svg.matches("#C83228").count();
+    let shape = Shape::new(64, 48, 12, Format::Monochrome);
+    let name = format!("<{}> & more.y4m", "reel ".repeat(30).trim_end());
+    let frames = [Planes::random(shape, 1), Planes::random(shape, 2)];
+    fs::write(folder.join(&name), common::clip(&frames)).unwrap();
+    let svg = drawn(&[&name]);
+    assert!(
+        svg.contains("Noise of &lt;reel reel ")
+            && svg.contains("…")
+            && svg.contains(" &amp; more.y4m"),
+        "{svg}"
+    );
+    assert_eq!(svg.matches("autocorrelation of the noise").count(), 1);
+    assert!(
+        !svg.contains("#C83228") && signs > 0,
+        "Cr's colour is Cr's alone"
+    );
+    assert!(svg.contains("height=\"432\""), "no empty panels");
+    assert!(!svg.contains("\n1.5\n"), "sigma is about 1.2: {svg}");
 }
