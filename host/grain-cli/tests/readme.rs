@@ -1,0 +1,71 @@
+//! What README shows is what there is: the report, the plot, and the two examples.
+
+mod common;
+
+use common::{folder, sample, written};
+use std::fs;
+use std::path::{Path, PathBuf};
+use std::process::Command;
+
+fn root() -> PathBuf {
+    Path::new(env!("CARGO_MANIFEST_DIR")).join("../..")
+}
+
+/// README's block of a kind, without its fences.
+fn block(kind: &str) -> String {
+    let readme = fs::read_to_string(root().join("README.md")).unwrap();
+    let (_, rest) = readme.split_once(&format!("\n```{kind}\n")).unwrap();
+    let (block, _) = rest.split_once("```").unwrap();
+    block.to_string()
+}
+
+/// The words of a plot, line by line.
+fn texts(svg: &str) -> Vec<&str> {
+    svg.lines().filter(|line| !line.starts_with('<')).collect()
+}
+
+#[test]
+fn the_report_and_the_plot() {
+    let (samples, _) = sample();
+    let plot = samples.join("readme.svg");
+    let words = [
+        "report",
+        "grain.y4m",
+        "--denoised",
+        "clean.y4m",
+        "--brief",
+        "--plot",
+        "readme.svg",
+        "--force",
+    ];
+    let shown = String::from_utf8(written(samples, &words)).unwrap();
+    assert_eq!(block("text"), shown);
+    let committed = fs::read_to_string(root().join("docs/grain.svg")).unwrap();
+    assert_eq!(texts(&committed), texts(&fs::read_to_string(plot).unwrap()));
+}
+
+#[test]
+fn the_examples() {
+    let c = root().join("examples/figures.c");
+    assert_eq!(block("c"), fs::read_to_string(&c).unwrap());
+    let rust = root().join("host/grain/examples/figures.rs");
+    assert_eq!(block("rust"), fs::read_to_string(rust).unwrap());
+    let archive =
+        std::env::var_os("GRAIN_LIB_DIR").map_or(root().join("target/staticlib"), PathBuf::from);
+    let built = folder("example").join("figures");
+    let compiled = Command::new("gcc")
+        .args(["-std=c11", "-pedantic", "-Wall", "-Wextra", "-Werror", "-I"])
+        .arg(root().join("include"))
+        .arg(&c)
+        .arg(archive.join("libgrain.a"))
+        .arg("-o")
+        .arg(&built)
+        .status()
+        .unwrap();
+    assert!(compiled.success());
+    let run = Command::new(built).output().unwrap();
+    assert_eq!(
+        String::from_utf8(run.stdout).unwrap(),
+        "sigma 0.81 in 8-bit steps\n"
+    );
+}
