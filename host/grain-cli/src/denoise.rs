@@ -3,6 +3,7 @@ use crate::clip::Writer;
 use crate::files::{self, Place, Stream, shown};
 use crate::output::Output;
 use crate::reel::{Part, Reel};
+use crate::stop;
 use anyhow::{Context, Result, bail};
 use std::io::{self, IsTerminal, Write};
 use std::path::Path;
@@ -49,6 +50,7 @@ fn copy<W: Write>(reel: &mut Reel, output: W, frames: &mut usize) -> Result<W> {
             Ok(task.first.clone())
         },
         |still| {
+            let _whole = stop::writing();
             writer.picture(still.denoised_picture()?)?;
             *frames += 1;
             Ok(true)

@@ -33,8 +33,7 @@ fn main() -> ExitCode {
         Ok(()) => ExitCode::SUCCESS,
         Err(error) => {
             say::say(format!("{error:#}"));
-            let stopped = error.downcast_ref::<stop::Stopped>();
-            stopped.map_or(ExitCode::FAILURE, |stopped| stopped.status().into())
+            ExitCode::FAILURE
         }
     }
 }

@@ -2,6 +2,7 @@
 
 use crate::files::shown;
 use crate::say::say;
+use crate::stop;
 use anyhow::{Context, Result, bail};
 use std::fs::{self, File, OpenOptions, Permissions};
 use std::io::{self, ErrorKind, Write};
@@ -25,7 +26,9 @@ impl Output {
     pub fn create(path: &Path, force: bool) -> Result<Self> {
         let name = shown(path);
         let path = fs::canonicalize(path).unwrap_or_else(|_| path.to_path_buf());
-        let there = fs::metadata(&path).ok();
+        // A link that leads nowhere is there, too.
+        let there = fs::metadata(&path).or_else(|_| fs::symlink_metadata(&path));
+        let there = there.ok();
         let mut options = OpenOptions::new();
         options.write(true);
         let (part, mode) = match there {
@@ -42,9 +45,14 @@ impl Output {
             name.push(format!(".{}.part", std::process::id()));
             PathBuf::from(name)
         });
+        // Not for a pipe, which may wait here for its reader.
+        let writing = part.is_some().then(stop::writing);
         let file = options
             .open(part.as_ref().unwrap_or(&path))
             .with_context(|| cant(&name))?;
+        if let Some(mut writing) = writing {
+            writing.clone_from(&part);
+        }
         Ok(Output {
             file,
             name,
@@ -65,6 +73,7 @@ impl Output {
             return Ok(());
         };
         let cant = || cant(&self.name);
+        let mut writing = stop::writing();
         if let Some(mode) = self.mode.take() {
             self.file.set_permissions(mode).with_context(cant)?;
             self.file.sync_all().with_context(cant)?;
@@ -76,6 +85,7 @@ impl Output {
             }
         }
         self.part = None;
+        *writing = None;
         // The name itself; a folder that can't be synced has it all the same.
         if let Some(folder) = self.path.parent() {
             let folder = if folder.as_os_str().is_empty() {
@@ -121,6 +131,7 @@ impl Write for Output {
 
 impl Drop for Output {
     fn drop(&mut self) {
+        let _writing = stop::writing();
         if let Some(part) = &self.part
             && fs::remove_file(part).is_err()
         {

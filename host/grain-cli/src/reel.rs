@@ -3,8 +3,8 @@
 use crate::clip::{Picture, Reader};
 use crate::pool::Pool;
 use crate::progress::Progress;
+use crate::refused;
 use crate::say::say;
-use crate::{refused, stop};
 use anyhow::{Error, Result, anyhow, bail};
 use grain::{Frame, Pair, Refusal, Shape};
 use rayon::prelude::*;
@@ -186,7 +186,6 @@ impl Reel {
                 || self.round(size),
                 || tasks.par_iter().map(&work).collect::<Result<Vec<T>>>(),
             );
-            stop::heed()?;
             for result in results? {
                 if !done(result)? {
                     return Ok(());

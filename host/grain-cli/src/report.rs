@@ -7,7 +7,7 @@ use crate::noise::Autocorrelation;
 use crate::output::Output;
 use crate::reel::{Part, Reel};
 use crate::summary::Tally;
-use crate::{json, plot, table};
+use crate::{json, plot, stop, table};
 use anyhow::{Context, Result, bail};
 use std::io::{self, ErrorKind, Write};
 use std::path::Path;
@@ -87,6 +87,7 @@ impl Paper {
         if !self.read {
             return Ok(());
         }
+        let _whole = stop::writing();
         match io::stdout().write_all(words.as_bytes()) {
             Err(error) if error.kind() == ErrorKind::BrokenPipe => {
                 self.read = false;

@@ -1,51 +1,47 @@
-//! Ctrl-C. The first lets the write under way end, so that nothing is left half-written; the second ends the run at
-//! once.
+//! Ctrl-C. The first waits for the write under way, so that no line and no frame is cut, takes away the file that isn't
+//! whole, and ends the run; the second ends it at once.
 
+use crate::say::say;
 use anyhow::Result;
 use signal_hook::consts::{SIGINT, SIGTERM};
 use signal_hook::flag;
-use std::fmt;
-use std::sync::atomic::{AtomicBool, Ordering};
-use std::sync::{Arc, OnceLock};
+use signal_hook::iterator::Signals;
+use std::path::PathBuf;
+use std::sync::atomic::AtomicBool;
+use std::sync::{Arc, Mutex, MutexGuard, PoisonError};
+use std::{fs, process, thread};
 
-/// Each signal that stops a run, and whether it came.
-static SIGNALS: OnceLock<[(i32, Arc<AtomicBool>); 2]> = OnceLock::new();
+const SIGNALS: [i32; 2] = [SIGINT, SIGTERM];
 
-/// The error of a run that was stopped by a signal.
-#[derive(Debug)]
-pub struct Stopped(i32);
+/// The file that isn't whole yet. Whoever writes holds the lock.
+static WRITING: Mutex<Option<PathBuf>> = Mutex::new(None);
 
-impl Stopped {
-    /// The exit status that a shell gives for the signal.
-    pub fn status(&self) -> u8 {
-        128 + self.0 as u8
-    }
+/// To be held while something is written that must not be cut.
+pub fn writing() -> MutexGuard<'static, Option<PathBuf>> {
+    WRITING.lock().unwrap_or_else(PoisonError::into_inner)
 }
 
-impl fmt::Display for Stopped {
-    fn fmt(&self, f: &mut fmt::Formatter<'_>) -> fmt::Result {
-        f.write_str("stopped before the end")
-    }
-}
-
-impl std::error::Error for Stopped {}
-
-/// Watches for the signals.
+/// Ends the run when a signal comes, with the status that a shell gives for it.
 pub fn watch() -> Result<()> {
-    for (signal, came) in SIGNALS.get_or_init(|| [SIGINT, SIGTERM].map(|s| (s, Arc::default()))) {
-        let status = i32::from(Stopped(*signal).status());
-        flag::register_conditional_shutdown(*signal, status, came.clone())?;
-        flag::register(*signal, came.clone())?;
+    let came = Arc::new(AtomicBool::new(false));
+    for signal in SIGNALS {
+        flag::register_conditional_shutdown(signal, status(signal), came.clone())?;
+        flag::register(signal, came.clone())?;
     }
+    let mut signals = Signals::new(SIGNALS)?;
+    thread::spawn(move || {
+        if let Some(signal) = signals.forever().next() {
+            let part = writing();
+            if let Some(part) = &*part {
+                let _ = fs::remove_file(part);
+            }
+            say("stopped before the end");
+            process::exit(status(signal));
+        }
+    });
     Ok(())
 }
 
-/// An error once a signal came.
-pub fn heed() -> Result<()> {
-    for (signal, came) in SIGNALS.get().into_iter().flatten() {
-        if came.load(Ordering::Relaxed) {
-            return Err(Stopped(*signal).into());
-        }
-    }
-    Ok(())
+fn status(signal: i32) -> i32 {
+    128 + signal
 }

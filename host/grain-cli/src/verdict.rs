@@ -55,12 +55,16 @@ impl Verdict {
                 caution,
             };
         }
+        let most = match 2 * luma.passed < luma.pairs {
+            true => ", fewer than half: --from N begins at another frame",
+            false => "",
+        };
         let (lag, because) = lag(profile, gates, fits);
         Verdict {
             grain: Some(true),
             lag: Some(lag),
             sentence: format!(
-                "Grain, by the first pair; {counts}. {because}{}",
+                "Grain, by the first pair; {counts}{most}. {because}{}",
                 chroma(gates)
             ),
             caution,
