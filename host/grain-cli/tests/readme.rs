@@ -44,6 +44,52 @@ fn the_report_and_the_plot() {
     assert_eq!(texts(&committed), texts(&fs::read_to_string(plot).unwrap()));
 }
 
+/// What the demo shows last: each true coefficient, and the one found within half a 64th and a bit.
+#[test]
+fn the_true_coefficients_beside_those_found() {
+    let (samples, _) = sample();
+    let words = [
+        "report",
+        "grain.y4m",
+        "--denoised",
+        "clean.y4m",
+        "--brief",
+        "--json",
+    ];
+    fs::write(samples.join("beside.json"), written(samples, &words)).unwrap();
+    let run = Command::new("python3")
+        .arg(root().join("host/sample"))
+        .arg("--beside")
+        .stdin(fs::File::open(samples.join("beside.json")).unwrap())
+        .output()
+        .unwrap();
+    assert!(run.status.success());
+    let shown = String::from_utf8(run.stdout).unwrap();
+    let row = |line: &str| -> Vec<f64> {
+        line.split_whitespace()
+            .filter_map(|word| word.parse().ok())
+            .collect()
+    };
+    let lines: Vec<&str> = shown.lines().skip(2).collect();
+    let counts: Vec<usize> = lines
+        .chunks(2)
+        .map(|pair| {
+            let [known, found] = [row(pair[0]), row(pair[1])];
+            assert!(
+                pair[0].contains("true") && pair[1].contains("found"),
+                "{shown}"
+            );
+            assert!(
+                known.iter().zip(&found).all(|(a, b)| (a - b).abs() < 0.6),
+                "{shown}"
+            );
+            assert_eq!(known.len(), found.len());
+            known.len()
+        })
+        .collect();
+    assert_eq!(counts, [4, 5, 5], "{shown}");
+}
+
 #[test]
 fn the_examples() {
     let c = root().join("examples/figures.c");

@@ -349,15 +349,8 @@ fn a_reader_may_go_away() {
 fn what_the_plot_says() {
     let (samples, _) = sample();
     let folder = folder("plot-words");
-    let clip = samples.join("grain.y4m");
-    let [clip, copy] = [
-        clip.to_str().unwrap(),
-        &clip
-            .with_file_name("clean.y4m")
-            .to_str()
-            .unwrap()
-            .to_string(),
-    ];
+    let [clip, copy] = ["grain.y4m", "clean.y4m"].map(|name| samples.join(name));
+    let [clip, copy] = [&clip, &copy].map(|path| path.to_str().unwrap());
     let drawn = |words: &[&str]| {
         written(
             &folder,
