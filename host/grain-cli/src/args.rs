@@ -1,3 +1,5 @@
+//! The words of the command line.
+
 use clap::{Args, Parser, Subcommand};
 use clap_complete::Shell;
 use std::num::NonZeroUsize;

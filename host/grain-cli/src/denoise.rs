@@ -1,3 +1,5 @@
+//! The denoised clip, written frame by frame.
+
 use crate::args::Denoise;
 use crate::clip::Writer;
 use crate::files::{self, Place, Stream, shown};

@@ -16,9 +16,11 @@ mod reel;
 mod refused;
 mod report;
 mod say;
+mod still;
 mod stop;
 mod summary;
 mod table;
+mod tally;
 mod verdict;
 mod words;
 

@@ -6,7 +6,7 @@ use crate::files::{self, Place, Stream, shown};
 use crate::noise::Autocorrelation;
 use crate::output::Output;
 use crate::reel::{Part, Reel};
-use crate::summary::Tally;
+use crate::tally::Tally;
 use crate::{json, plot, stop, table};
 use anyhow::{Context, Result, bail};
 use std::io::{self, ErrorKind, Write};

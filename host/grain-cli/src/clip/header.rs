@@ -1,3 +1,5 @@
+//! A clip's first line.
+
 use super::colour::colour_space;
 use crate::refused;
 use anyhow::{Context, Result, bail};

@@ -1,3 +1,5 @@
+//! A clip that is read.
+
 use super::header::MAGIC;
 use super::{Header, Picture};
 use crate::files::{Stream, shown};

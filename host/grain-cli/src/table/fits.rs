@@ -1,3 +1,5 @@
+//! The fits, each coefficient at its place.
+
 use super::{COLUMNS, line};
 use crate::figures::Fit;
 

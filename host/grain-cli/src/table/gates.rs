@@ -1,3 +1,5 @@
+//! The gates, as a table.
+
 use super::line;
 use crate::figures::{FRAME_LIMIT, FrameFigures, LEAST_SIGMA, Planes, ROW_LIMIT};
 use crate::summary::{GateCount, Spread};

@@ -1,3 +1,5 @@
+//! The noise profile, as a table.
+
 use super::line;
 use crate::figures::{Planes, Profile};
 
