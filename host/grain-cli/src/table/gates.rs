@@ -17,7 +17,7 @@ pub fn of_frame(out: &mut String, figures: &FrameFigures) {
         out,
         format!("  {head:<32}{sigma:>12}{row:>14}{between:>18}"),
     );
-    let [sigma, row, between] = limits();
+    let [sigma, row, between] = limits(gates.cb.is_some());
     line(
         out,
         format!("  {:<14}{sigma:>30}{row:>14}{between:>18}", "limits"),
@@ -46,7 +46,7 @@ pub fn of_clip(out: &mut String, gates: Option<&Planes<GateCount>>) {
         out,
         format!("  {head:<18}{passed:>20}{row:>20}{between:>20}"),
     );
-    let [sigma, row, between] = limits();
+    let [sigma, row, between] = limits(gates.cb.is_some());
     let sigma = format!("limits: sigma {sigma}");
     line(out, format!("  {sigma:<38}{row:>20}{between:>20}"));
     for (name, gate) in gates.named() {
@@ -62,10 +62,14 @@ pub fn of_clip(out: &mut String, gates: Option<&Planes<GateCount>>) {
 }
 
 /// What sigma and the two correlations must hold to.
-fn limits() -> [String; 3] {
+fn limits(colour: bool) -> [String; 3] {
     let [luma, chroma] = LEAST_SIGMA;
+    let chroma = match colour {
+        true => format!(", Cb and Cr ≥ {chroma}"),
+        false => String::new(),
+    };
     [
-        format!("Y ≥ {luma}, Cb and Cr ≥ {chroma}"),
+        format!("Y ≥ {luma}{chroma}"),
         format!("within ±{ROW_LIMIT}"),
         format!("within ±{FRAME_LIMIT}"),
     ]
