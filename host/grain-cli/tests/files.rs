@@ -212,3 +212,27 @@ fn a_name_that_is_taken_meanwhile() {
     );
     assert_eq!(fs::read(folder.join("out.y4m")).unwrap(), b"another's");
 }
+
+/// A name that lies in wait for the file being written is not followed: `exec` keeps the process's number.
+#[test]
+fn a_link_in_the_way() {
+    let (folder, bytes) = master("in-the-way");
+    fs::write(folder.join("another"), "kept").unwrap();
+    let line = format!(
+        "ln -s another out.y4m.$$.part; exec {} denoise master.y4m out.y4m",
+        env!("CARGO_BIN_EXE_grain")
+    );
+    let run = std::process::Command::new("sh")
+        .args(["-c", &line])
+        .current_dir(&folder)
+        .output()
+        .unwrap();
+    let said = String::from_utf8(run.stderr).unwrap();
+    assert!(
+        said.contains("out.y4m can't be written: File exists"),
+        "{said}"
+    );
+    assert_eq!(fs::read(folder.join("another")).unwrap(), b"kept");
+    assert_eq!(fs::read(folder.join("master.y4m")).unwrap(), bytes);
+    assert!(!folder.join("out.y4m").exists());
+}
