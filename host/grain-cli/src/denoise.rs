@@ -1,13 +1,26 @@
+//! The denoised clip, written frame by frame.
+
 use crate::args::Denoise;
 use crate::clip::Writer;
+use crate::files::{self, Place, Stream, shown};
 use crate::output::Output;
-use crate::reel::Reel;
+use crate::reel::{Part, Reel};
+use crate::stop;
 use anyhow::{Context, Result, bail};
 use std::io::{self, IsTerminal, Write};
 use std::path::Path;
 
 pub fn run(asked: &Denoise) -> Result<()> {
-    let mut reel = Reel::open(&asked.input, None, 1, asked.frames.map(usize::from))?;
+    files::apart(
+        &[Place::new(&asked.input, Stream::Input)],
+        &[Place::new(&asked.output, Stream::Output)],
+    )?;
+    let part = Part {
+        from: 0,
+        every: 1,
+        limit: asked.frames.map(usize::from),
+    };
+    let mut reel = Reel::open(&asked.input, None, part)?;
     if asked.output == Path::new("-") {
         let output = io::stdout();
         if output.is_terminal() {
@@ -18,8 +31,8 @@ pub fn run(asked: &Denoise) -> Result<()> {
             .map(drop)
             .with_context(|| format!("standard output has only {frames} frames"));
     }
-    let output = Output::create(&asked.output)?;
-    let name = asked.output.display();
+    let output = Output::create(&asked.output, asked.force)?;
+    let name = shown(&asked.output);
     let special = output.is_special();
     let mut frames = 0;
     copy(&mut reel, output, &mut frames)
@@ -39,9 +52,10 @@ fn copy<W: Write>(reel: &mut Reel, output: W, frames: &mut usize) -> Result<W> {
             Ok(task.first.clone())
         },
         |still| {
+            let _whole = stop::writing();
             writer.picture(still.denoised_picture()?)?;
             *frames += 1;
-            Ok(())
+            Ok(true)
         },
     )?;
     Ok(writer.end()?)

@@ -25,17 +25,46 @@ fn dot(a: &[i16], b: &[i16]) -> i64 {
     a.chunks(64).zip(b.chunks(64)).map(block).sum()
 }
 
+/// The sum of squares, in steps of the samples' own depth.
+pub fn energy(source: &[u16], denoised: &[u16]) -> u64 {
+    let block = |(source, denoised): (&[u16], &[u16])| -> u64 {
+        let square = |(&s, &d): (&u16, &u16)| (u32::from(s.abs_diff(d))).pow(2);
+        source.iter().zip(denoised).map(square).sum::<u32>().into()
+    };
+    // A square is below 2^24.
+    source
+        .chunks(128)
+        .zip(denoised.chunks(128))
+        .map(block)
+        .sum()
+}
+
 /// cross / root(e0 × e1) of two frames' noises, as the gates have it; `None` where one has no energy.
 ///
 /// Each frame is its source and its denoised plane.
-pub fn correlation(first: [&[u16]; 2], second: [&[u16]; 2]) -> Option<f64> {
-    let [first, second] = [first, second].map(|[s, d]| noise(s, d));
-    let (cross, e0, e1) = (
-        dot(&first, &second),
-        dot(&first, &first),
-        dot(&second, &second),
-    );
+pub fn correlation([src0, den0]: [&[u16]; 2], [src1, den1]: [&[u16]; 2]) -> Option<f64> {
+    let (mut cross, mut e0, mut e1) = (0, 0, 0);
+    // One block of noise at a time, so that no plane of it is held.
+    let (mut first, mut second) = ([0; BLOCK], [0; BLOCK]);
+    for at in (0..src0.len()).step_by(BLOCK) {
+        let block = at..src0.len().min(at + BLOCK);
+        let first = &mut first[..block.len()];
+        let second = &mut second[..block.len()];
+        fill(first, &src0[block.clone()], &den0[block.clone()]);
+        fill(second, &src1[block.clone()], &den1[block]);
+        cross += dot(first, second);
+        e0 += dot(first, first);
+        e1 += dot(second, second);
+    }
     (e0 > 0 && e1 > 0).then(|| cross as f64 / (e0 as f64 * e1 as f64).sqrt())
+}
+
+const BLOCK: usize = 1024;
+
+fn fill(noise: &mut [i16], source: &[u16], denoised: &[u16]) {
+    for ((noise, &s), &d) in noise.iter_mut().zip(source).zip(denoised) {
+        *noise = s as i16 - d as i16;
+    }
 }
 
 /// Sums of products of a plane's noise with itself some rows down and some columns aside.
@@ -133,6 +162,16 @@ mod tests {
                 }
             }
         }
+    }
+
+    #[test]
+    fn energy_is_the_sum_of_squares() {
+        let (source, denoised) = planes(100, 7);
+        let noise = noise(&source, &denoised);
+        let sum: i64 = noise.iter().map(|&n| i64::from(n).pow(2)).sum();
+        assert_eq!(energy(&source, &denoised), sum as u64);
+        let (most, least) = (vec![4095; 1000], vec![0; 1000]);
+        assert_eq!(energy(&least, &most), 1000 * 4095 * 4095);
     }
 
     #[test]

@@ -1,3 +1,5 @@
+//! How far a long clip is read.
+
 use indicatif::{ProgressBar, ProgressStyle};
 use std::time::{Duration, Instant};
 

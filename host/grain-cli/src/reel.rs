@@ -1,64 +1,36 @@
 //! A clip with its denoised copy, handed out frame by frame to every core.
 
-use crate::clip::{Picture, Reader};
+use crate::clip::Reader;
+use crate::pool::Pool;
 use crate::progress::Progress;
-use anyhow::{Error, Result, anyhow, bail};
-use grain::{Frame, Pair, Refusal, Shape};
+use crate::say::say;
+use crate::still::{Still, Task};
+use anyhow::{Result, bail};
+use grain::Shape;
 use rayon::prelude::*;
 use std::path::Path;
-use std::sync::{Arc, OnceLock};
+use std::sync::Arc;
 
 /// Bytes of pictures that one round of work may hold.
 const ROUND_BYTES: usize = 1 << 30;
 
-/// A frame with its denoised copy, which is made when it is first asked for.
-pub struct Still {
-    pub index: usize,
-    /// What it belongs to, in messages.
-    name: Arc<str>,
-    shape: Shape,
-    source: Picture,
-    denoised: OnceLock<Result<Picture, Refusal>>,
+/// The frames of a clip that are taken.
+#[derive(Clone, Copy)]
+pub struct Part {
+    /// The first.
+    pub from: usize,
+    /// Work on the first and on every so many after it.
+    pub every: usize,
+    /// How many are read at most.
+    pub limit: Option<usize>,
 }
 
-impl Still {
-    fn source(&self) -> Frame<'_> {
-        self.source.lent(self.shape)
+impl Part {
+    /// The frame before which reading ends.
+    fn end(&self) -> usize {
+        let limit = self.limit.unwrap_or(usize::MAX);
+        self.from.saturating_add(limit)
     }
-
-    pub fn denoised_picture(&self) -> Result<&Picture> {
-        let made = self.denoised.get_or_init(|| {
-            let mut copy = Picture::blank(self.shape);
-            copy.words.clone_from(&self.source.words);
-            grain::denoise_frame(&self.source(), &mut copy.y, &mut copy.cb, &mut copy.cr)?;
-            Ok(copy)
-        });
-        made.as_ref().map_err(|&refusal| self.refused(refusal))
-    }
-
-    pub fn pair(&self) -> Result<Pair<'_>> {
-        let denoised = self.denoised_picture()?.lent(self.shape);
-        Ok(Pair::new(self.source(), denoised)?)
-    }
-
-    /// What to say where a call refuses this frame.
-    pub fn refused(&self, refusal: Refusal) -> Error {
-        let depth = self.shape.depth;
-        let highest = (1u32 << depth) - 1;
-        let words = match refusal {
-            Refusal::SampleAboveDepth => {
-                format!(" has a sample above {highest}, the highest of {depth} bits")
-            }
-            _ => String::new(),
-        };
-        anyhow!("{}: frame {}{words}. {refusal}", self.name, self.index)
-    }
-}
-
-/// A frame to work on, and the one after it.
-pub struct Task {
-    pub first: Arc<Still>,
-    pub second: Option<Arc<Still>>,
 }
 
 /// A clip that is being read.
@@ -67,9 +39,8 @@ pub struct Reel {
     pub copy: Option<Reader>,
     /// Both, in messages.
     name: Arc<str>,
-    /// Work on frame 0 and on every so many after it.
-    every: usize,
-    limit: usize,
+    pool: Arc<Pool>,
+    part: Part,
     /// The next frame to read, and the next to work on.
     at: usize,
     wanted: usize,
@@ -78,20 +49,18 @@ pub struct Reel {
 }
 
 impl Reel {
-    /// Opens a clip, and its denoised copy where one is given. Only the first `limit` frames are taken.
-    pub fn open(
-        clip: &Path,
-        copy: Option<&Path>,
-        every: usize,
-        limit: Option<usize>,
-    ) -> Result<Self> {
-        let clip = Reader::open(clip)?;
-        let copy = copy.map(Reader::open).transpose()?;
+    /// Opens a clip, and its denoised copy where one is given.
+    pub fn open(clip: &Path, copy: Option<&Path>, part: Part) -> Result<Self> {
+        let mut clip = Reader::open(clip)?;
+        let mut copy = copy.map(Reader::open).transpose()?;
+        for reader in [Some(&mut clip), copy.as_mut()].into_iter().flatten() {
+            reader.from = part.from;
+        }
         if clip.header.interlaced {
-            eprintln!(
-                "grain: {} is interlaced; each of its frames is taken as one picture",
+            say(format!(
+                "{} is interlaced; each of its frames is taken as one picture",
                 clip.name
-            );
+            ));
         }
         if let Some(copy) = &copy
             && copy.header.shape != clip.header.shape
@@ -109,13 +78,13 @@ impl Reel {
             None => clip.name.as_str().into(),
         };
         Ok(Reel {
+            pool: Arc::new(Pool::new(clip.header.shape)),
             clip,
             copy,
             name,
-            every,
-            limit: limit.unwrap_or(usize::MAX),
+            part,
             at: 0,
-            wanted: 0,
+            wanted: part.from,
             held: None,
         })
     }
@@ -124,25 +93,28 @@ impl Reel {
         self.clip.header.shape
     }
 
-    /// Frames read so far: after all the work, the frames taken.
-    pub fn frames(&self) -> usize {
-        self.at
+    /// The first frame taken.
+    pub fn from(&self) -> usize {
+        self.part.from
     }
 
-    /// Does the work of every wanted frame on all cores and hands the results on in order.
+    /// Frames taken so far.
+    pub fn frames(&self) -> usize {
+        self.at.saturating_sub(self.part.from)
+    }
+
+    /// Does the work of every wanted frame on all cores and hands the results on in order, until one is answered false.
     pub fn each<T: Send>(
         &mut self,
         work: impl Fn(&Task) -> Result<T> + Sync,
-        mut done: impl FnMut(T) -> Result<()>,
+        mut done: impl FnMut(T) -> Result<bool>,
     ) -> Result<()> {
         let frame = 4 * (self.shape().luma_samples() + 2 * self.shape().chroma_samples());
-        let size = (2 * rayon::current_num_threads())
-            .min(ROUND_BYTES / frame)
-            .max(1);
+        let size = rayon::current_num_threads().min(ROUND_BYTES / frame).max(1);
         let expected = self
             .clip
             .expected
-            .map(|frames| frames.min(self.limit as u64));
+            .map(|frames| frames.min(self.part.end() as u64));
         let mut progress = Progress::new(expected);
         let mut tasks = self.round(size)?;
         while !tasks.is_empty() {
@@ -150,15 +122,24 @@ impl Reel {
                 || self.round(size),
                 || tasks.par_iter().map(&work).collect::<Result<Vec<T>>>(),
             );
-            results?.into_iter().try_for_each(&mut done)?;
+            for result in results? {
+                if !done(result)? {
+                    return Ok(());
+                }
+            }
             let finished = tasks.last().map_or(0, |task| task.first.index + 1);
             progress.reach(finished as u64);
             tasks = next?;
         }
-        if self.at == 0 {
-            bail!("{}: there is no frame after the header", self.clip.name);
+        match (self.at, self.frames()) {
+            (0, _) => bail!("{}: there is no frame after the header", self.clip.name),
+            (all, 0) => bail!(
+                "{}: --from {} passes over all of its {all} frames",
+                self.clip.name,
+                self.part.from
+            ),
+            _ => Ok(()),
         }
-        Ok(())
     }
 
     fn round(&mut self, size: usize) -> Result<Vec<Task>> {
@@ -186,53 +167,41 @@ impl Reel {
             },
         };
         let second = self.still()?;
-        self.wanted += self.every;
+        self.wanted = self.wanted.saturating_add(self.part.every);
         self.held.clone_from(&second);
         Ok(Some(Task { first, second }))
     }
 
     /// The next frame, or `None` at the end of both clips.
     fn still(&mut self) -> Result<Option<Arc<Still>>> {
-        if self.at == self.limit {
+        if self.at >= self.part.end() {
             return Ok(None);
         }
-        let source = self.clip.picture()?;
-        let denoised = match &mut self.copy {
-            None => None,
-            Some(copy) => {
-                let picture = copy.picture()?;
-                both(
-                    &self.clip.name,
-                    &copy.name,
-                    source.is_some(),
-                    picture.is_some(),
-                    self.at,
-                )?;
-                picture
-            }
-        };
-        let Some(source) = source else {
+        let mut source = self.pool.take();
+        let there = self.clip.picture(&mut source)?;
+        let mut denoised = None;
+        if let Some(copy) = &mut self.copy {
+            let picture = denoised.insert(self.pool.take());
+            let of_copy = copy.picture(picture)?;
+            both(&self.clip, copy, there, of_copy, self.at)?;
+        }
+        if !there {
             return Ok(None);
-        };
-        let still = Still {
-            index: self.at,
-            name: self.name.clone(),
-            shape: self.shape(),
-            source,
-            denoised: denoised.map_or_else(OnceLock::new, |picture| OnceLock::from(Ok(picture))),
-        };
+        }
+        let (name, pool) = (self.name.clone(), self.pool.clone());
+        let still = Still::new(self.at, name, pool, source, denoised);
         self.at += 1;
         Ok(Some(Arc::new(still)))
     }
 
     fn pass(&mut self) -> Result<bool> {
-        if self.at == self.limit {
+        if self.at >= self.part.end() {
             return Ok(false);
         }
         let there = self.clip.pass()?;
         if let Some(copy) = &mut self.copy {
             let of_copy = copy.pass()?;
-            both(&self.clip.name, &copy.name, there, of_copy, self.at)?;
+            both(&self.clip, copy, there, of_copy, self.at)?;
         }
         self.at += usize::from(there);
         Ok(there)
@@ -240,11 +209,15 @@ impl Reel {
 }
 
 /// Both clips have a frame here, or both end.
-fn both(clip: &str, copy: &str, of_clip: bool, of_copy: bool, at: usize) -> Result<()> {
+fn both(clip: &Reader, copy: &Reader, of_clip: bool, of_copy: bool, at: usize) -> Result<()> {
     let (short, long) = match (of_clip, of_copy) {
-        (true, false) => (copy, clip),
-        (false, true) => (clip, copy),
+        (true, false) => (&copy.name, &clip.name),
+        (false, true) => (&clip.name, &copy.name),
         _ => return Ok(()),
     };
-    bail!("{short} ends after {at} frames and {long} has more: --frames {at} takes what both have");
+    let remedy = match at.saturating_sub(clip.from) {
+        0 => String::new(),
+        n => format!(": --frames {n} takes what both have"),
+    };
+    bail!("{short} ends after {at} frames and {long} has more{remedy}");
 }

@@ -2,8 +2,8 @@
 
 mod common;
 
-use common::{Planes, clip, folder, run, said, sample};
-use grain::{Format, Refusal, Shape};
+use common::{Planes, clip, folder, json, run, said, sample};
+use grain::{Format, Shape};
 use std::fs;
 
 const SHAPE: Shape = Shape::new(16, 8, 10, Format::Yuv420);
@@ -57,12 +57,44 @@ fn unknown_header() {
             "YUV4MPEG22 W16 H8 F1:1 C420\n",
             "not a YUV4MPEG2 clip",
         ),
+        ("magic-alone", "YUV4MPEG2\n", "the header has no width (W)"),
         (
             "space",
-            "YUV4MPEG2 W16 H8 F1:1 C411\n",
-            "the colour space C411, which isn't read. These are: mono, mono10",
+            "YUV4MPEG2 W16 H8 F1:1 CRGB\n",
+            "the colour space \"CRGB\", which isn't read. These are: mono, mono10",
         ),
-        ("depth-16", "YUV4MPEG2 W16 H8 F1:1 C420p16\n", "C420p16"),
+        (
+            "space-411",
+            "YUV4MPEG2 W16 H8 F1:1 C411\n",
+            "the colour space \"C411\": 4:1:1 and 4:1:0 aren't read. ffmpeg makes a clip that is read: \
+             ffmpeg -i INPUT -pix_fmt yuv422p -strict -1 OUTPUT.y4m",
+        ),
+        (
+            "depth-16",
+            "YUV4MPEG2 W16 H8 F1:1 C420p16\n",
+            "the colour space \"C420p16\": 16 bits aren't read, but 8, 10 and 12. ffmpeg makes a clip that is \
+             read: ffmpeg -i INPUT -pix_fmt yuv420p12le -strict -1 OUTPUT.y4m",
+        ),
+        (
+            "depth-9",
+            "YUV4MPEG2 W16 H8 F1:1 Cmono9\n",
+            "-pix_fmt gray10le ",
+        ),
+        (
+            "old-space",
+            "YUV4MPEG2 W16 H8 F1:1 XYSCSS=411\n",
+            "the colour space \"XYSCSS=411\": 4:1:1",
+        ),
+        (
+            "two-widths",
+            "YUV4MPEG2 W16 H8 W32 C420\n",
+            "the header says one thing twice: \"W16\" and \"W32\"",
+        ),
+        (
+            "two-spaces",
+            "YUV4MPEG2 W16 H8 C420 C420p10\n",
+            "the header says one thing twice: \"C420\" and \"C420p10\"",
+        ),
         (
             "width",
             "YUV4MPEG2 Wide H8 F1:1 C420\n",
@@ -81,7 +113,7 @@ fn unknown_header() {
         (
             "zero",
             "YUV4MPEG2 W0 H8 F1:1 C420\n",
-            "0×8. In a frame call",
+            "the frames are 0×8: width and height must each be at least 1 (question 2)",
         ),
     ] {
         let words = of(name, head.as_bytes());
@@ -90,6 +122,21 @@ fn unknown_header() {
             "{words}"
         );
     }
+}
+
+/// Old programs give the colour space as XYSCSS alone; C goes before it.
+#[test]
+fn an_old_word_for_the_colour_space() {
+    let folder = folder("old-space");
+    let frame = |head: &str, bytes: usize| {
+        let planes = vec![16; bytes];
+        let bytes = [head.as_bytes(), b"\nFRAME\n", &planes].concat();
+        fs::write(folder.join("clip.y4m"), bytes).unwrap();
+        json(&folder, &["report", "clip.y4m", "--json"])["clip"]["format"].clone()
+    };
+    assert_eq!(frame("YUV4MPEG2 W4 H4 XYSCSS=444", 48), "4:4:4");
+    assert_eq!(frame("YUV4MPEG2 W4 H4 XYSCSS=420JPEG", 24), "4:2:0");
+    assert_eq!(frame("YUV4MPEG2 W4 H4 C422 XYSCSS=420JPEG", 32), "4:2:2");
 }
 
 /// Not refused: each frame is taken as one picture, and that is said.
@@ -124,7 +171,7 @@ fn too_large() {
             format!("YUV4MPEG2 {size} F25:1 C420\nFRAME\n").as_bytes(),
         );
         assert!(
-            words.contains(&Refusal::SideAbove4096.to_string()),
+            words.contains("width and height must each be at most 4,096 (question 1)"),
             "{words}"
         );
     }
@@ -148,11 +195,9 @@ fn a_sample_above_the_depth() {
     all[1].planes[2][3] = 1024;
     let words = of("depth", &clip(&all));
     assert!(
-        words.contains("clip.y4m: frame 1 has a sample above 1023, the highest of 10 bits"),
-        "{words}"
-    );
-    assert!(
-        words.contains(&Refusal::SampleAboveDepth.to_string()),
+        words.contains(
+            "clip.y4m: frame 1: it has a sample above 1023, the highest of 10 bits (question 6)"
+        ),
         "{words}"
     );
 }

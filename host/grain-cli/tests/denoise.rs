@@ -13,7 +13,8 @@ fn another_reader_finds_the_denoised_planes() {
     for shape in shapes(33, 17) {
         let frames: Vec<Planes> = (5..8).map(|seed| Planes::random(shape, seed)).collect();
         fs::write(folder.join("in.y4m"), clip(&frames)).unwrap();
-        assert_eq!(written(&folder, &["denoise", "in.y4m", "out.y4m"]), b"");
+        let words = ["denoise", "in.y4m", "out.y4m", "--force"];
+        assert_eq!(written(&folder, &words), b"");
         let denoised: Vec<Planes> = frames.iter().map(Planes::denoised).collect();
         let bytes = fs::read(folder.join("out.y4m")).unwrap();
         assert_eq!(
@@ -54,9 +55,9 @@ fn a_frame_s_own_words_are_kept() {
     let shape = Shape::new(2, 1, 8, Format::Monochrome);
     let head = header(shape) + "\nFRAME Ixyz\n";
     fs::write(folder.join("in.y4m"), [head.as_bytes(), &[0, 16]].concat()).unwrap();
-    written(&folder, &["denoise", "in.y4m", "in.y4m"]);
+    written(&folder, &["denoise", "in.y4m", "out.y4m"]);
     assert_eq!(
-        fs::read(folder.join("in.y4m")).unwrap(),
+        fs::read(folder.join("out.y4m")).unwrap(),
         [head.as_bytes(), &[4, 12]].concat()
     );
 }
@@ -78,7 +79,7 @@ fn nothing_half_written_is_left() {
     let bytes = fs::read(samples.join("grain.y4m")).unwrap();
     fs::write(folder.join("cut.y4m"), &bytes[..bytes.len() - 1]).unwrap();
     fs::write(folder.join("out.y4m"), "before").unwrap();
-    let words = said(&folder, &["denoise", "cut.y4m", "out.y4m"]);
+    let words = said(&folder, &["denoise", "cut.y4m", "out.y4m", "--force"]);
     assert!(
         words.contains(
             "out.y4m isn't written: cut.y4m: cut off: frame 5 has 230399 of its 230400 bytes"
@@ -89,7 +90,8 @@ fn nothing_half_written_is_left() {
     assert_eq!(fs::read_dir(&folder).unwrap().count(), 2);
     let words = said(&folder, &["denoise", "cut.y4m", "-"]);
     assert!(words.contains("standard output has only"), "{words}");
-    written(&folder, &["denoise", "cut.y4m", "out.y4m", "--frames", "5"]);
+    let words = ["denoise", "cut.y4m", "out.y4m", "--frames", "5", "--force"];
+    written(&folder, &words);
     assert_eq!(
         fs::metadata(folder.join("out.y4m")).unwrap().len() as usize,
         bytes.len() - 6 - 230400

@@ -6,7 +6,9 @@ use crate::{Pair, Refusal, sys};
 #[derive(Debug, Clone, Copy, PartialEq, Eq)]
 #[non_exhaustive]
 pub struct ChromaCorr {
+    /// Of Cb, in 64ths.
     pub cb: i32,
+    /// Of Cr, in 64ths.
     pub cr: i32,
 }
 
@@ -49,9 +51,13 @@ pub fn ar_positions(lag: usize) -> Result<Vec<(i32, i32)>, Refusal> {
 #[derive(Debug, Clone, PartialEq, Eq)]
 #[non_exhaustive]
 pub struct ArFit {
+    /// From 1 to 3.
     pub lag: u8,
+    /// Luma's, in 64ths.
     pub y: Vec<i32>,
+    /// Those of Cb, and its luma tap.
     pub cb: Vec<i32>,
+    /// Those of Cr, and its luma tap.
     pub cr: Vec<i32>,
 }
 

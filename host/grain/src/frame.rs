@@ -8,9 +8,13 @@ pub const SIDE_LIMIT: usize = 4096;
 #[derive(Debug, Clone, Copy, PartialEq, Eq, Hash)]
 #[repr(u8)]
 pub enum Format {
+    /// Luma alone.
     Monochrome = 0,
+    /// Chroma of half the width and half the height.
     Yuv420 = 1,
+    /// Chroma of half the width.
     Yuv422 = 2,
+    /// Chroma of luma's size.
     Yuv444 = 3,
 }
 
@@ -58,9 +62,13 @@ impl TryFrom<u8> for Format {
 #[derive(Debug, Clone, Copy, PartialEq, Eq, Hash)]
 #[non_exhaustive]
 pub struct Shape {
+    /// Luma samples of a row.
     pub width: usize,
+    /// Rows of luma.
     pub height: usize,
+    /// Bits of a sample.
     pub depth: u8,
+    /// Which chroma planes there are.
     pub format: Format,
 }
 
@@ -126,16 +134,22 @@ impl From<Shape> for sys::Shape {
 #[derive(Debug, Clone, Copy)]
 #[non_exhaustive]
 pub struct Frame<'a> {
+    /// Its size, depth and format.
     pub shape: Shape,
+    /// Luma.
     pub y: &'a [u16],
+    /// The first chroma plane.
     pub cb: &'a [u16],
+    /// The second.
     pub cr: &'a [u16],
 }
 
 /// One of the two chroma planes.
 #[derive(Debug, Clone, Copy, PartialEq, Eq, Hash)]
 pub enum Chroma {
+    /// The first.
     Cb,
+    /// The second.
     Cr,
 }
 

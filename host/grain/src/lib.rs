@@ -28,6 +28,8 @@
 //!
 //! Shapes, refusals and answers may gain fields and cases in later versions.
 
+#![deny(missing_docs)]
+
 mod denoise;
 mod fit;
 mod frame;
@@ -36,6 +38,7 @@ mod pair;
 mod profile;
 mod random;
 mod refusal;
+#[allow(missing_docs)] // include/grain.h says what each is
 pub mod sys;
 
 pub use denoise::{denoise_frame, denoise_plane};

@@ -7,7 +7,9 @@ use std::fmt;
 #[derive(Debug, Clone, Copy, PartialEq, Eq, Hash)]
 #[non_exhaustive]
 pub struct ShapeMismatch {
+    /// The first frame's shape.
     pub first: Shape,
+    /// The shape that differs from it.
     pub other: Shape,
 }
 
@@ -47,19 +49,23 @@ pub struct Pair<'a> {
 }
 
 impl<'a> Pair<'a> {
+    /// The two as one value, if they have one shape.
     pub fn new(frame: Frame<'a>, denoised: Frame<'a>) -> Result<Self, ShapeMismatch> {
         same(frame.shape, denoised.shape)?;
         Ok(Self { frame, denoised })
     }
 
+    /// The shape of both.
     pub fn shape(&self) -> Shape {
         self.frame.shape
     }
 
+    /// The frame itself.
     pub fn frame(&self) -> &Frame<'a> {
         &self.frame
     }
 
+    /// Its denoised copy.
     pub fn denoised(&self) -> &Frame<'a> {
         &self.denoised
     }
@@ -73,11 +79,13 @@ pub struct TwoFrames<'a> {
 }
 
 impl<'a> TwoFrames<'a> {
+    /// The two as one value, if they have one shape.
     pub fn new(first: Pair<'a>, second: Pair<'a>) -> Result<Self, ShapeMismatch> {
         same(first.shape(), second.shape())?;
         Ok(Self { first, second })
     }
 
+    /// The shape of all.
     pub fn shape(&self) -> Shape {
         self.first.shape()
     }

@@ -36,7 +36,9 @@ pub struct Bin {
 #[derive(Debug, Clone, Copy, PartialEq, Eq)]
 #[non_exhaustive]
 pub struct Profile<const BINS: usize> {
+    /// Sixteen times the root mean square of all its noise, in 8-bit steps.
     pub sigma16: u64,
+    /// From the darkest samples to the brightest.
     pub bins: [Bin; BINS],
 }
 
@@ -44,8 +46,11 @@ pub struct Profile<const BINS: usize> {
 #[derive(Debug, Clone, Copy, PartialEq, Eq)]
 #[non_exhaustive]
 pub struct NoiseEstimate {
+    /// Of Y.
     pub luma: Profile<8>,
+    /// Of Cb; all zeros of a monochrome frame.
     pub cb: Profile<4>,
+    /// Of Cr; all zeros of a monochrome frame.
     pub cr: Profile<4>,
 }
 

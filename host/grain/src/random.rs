@@ -23,6 +23,7 @@ pub fn grain_seed_for(hint: u32) -> u16 {
 /// ```
 #[derive(Debug, Clone, Copy, PartialEq, Eq)]
 pub struct RandomRegister {
+    /// The sixteen bits that it holds.
     pub state: u16,
 }
 

@@ -1,27 +1,12 @@
+//! A clip's first line.
+
+use super::colour::colour_space;
+use crate::refused;
 use anyhow::{Context, Result, bail};
-use grain::{Format, Refusal, SIDE_LIMIT, Shape};
+use grain::{Refusal, SIDE_LIMIT, Shape};
 
 /// The word that begins a clip.
 pub const MAGIC: &str = "YUV4MPEG2";
-
-/// Each colour space that is read, with its format and depth. Where chroma lies between luma doesn't matter here.
-const COLOUR_SPACES: [(&str, Format, u8); 15] = [
-    ("mono", Format::Monochrome, 8),
-    ("mono10", Format::Monochrome, 10),
-    ("mono12", Format::Monochrome, 12),
-    ("420", Format::Yuv420, 8),
-    ("420jpeg", Format::Yuv420, 8),
-    ("420mpeg2", Format::Yuv420, 8),
-    ("420paldv", Format::Yuv420, 8),
-    ("420p10", Format::Yuv420, 10),
-    ("420p12", Format::Yuv420, 12),
-    ("422", Format::Yuv422, 8),
-    ("422p10", Format::Yuv422, 10),
-    ("422p12", Format::Yuv422, 12),
-    ("444", Format::Yuv444, 8),
-    ("444p10", Format::Yuv444, 10),
-    ("444p12", Format::Yuv444, 12),
-];
 
 /// A clip's first line, and the shape it gives to every frame.
 #[derive(Debug, Clone)]
@@ -31,37 +16,74 @@ pub struct Header {
     pub interlaced: bool,
 }
 
+/// The words of a header that say something here, each at most once.
+#[derive(Default)]
+struct Tags<'a> {
+    width: Option<&'a str>,
+    height: Option<&'a str>,
+    colour: Option<&'a str>,
+    interlacing: Option<&'a str>,
+    /// Old programs give the colour space by this word alone.
+    sampling: Option<&'a str>,
+}
+
+const SAMPLING: &str = "XYSCSS=";
+
+impl<'a> Tags<'a> {
+    fn read(words: &'a str) -> Result<Self> {
+        let mut tags = Tags::default();
+        for word in words.split_ascii_whitespace() {
+            let tag = match word.as_bytes()[0] {
+                b'W' => &mut tags.width,
+                b'H' => &mut tags.height,
+                b'C' => &mut tags.colour,
+                b'I' => &mut tags.interlacing,
+                b'X' if word.starts_with(SAMPLING) => &mut tags.sampling,
+                _ => continue,
+            };
+            if let Some(first) = tag.replace(word) {
+                bail!("the header says one thing twice: {first:?} and {word:?}");
+            }
+        }
+        Ok(tags)
+    }
+
+    /// The colour space, and the word that has it.
+    fn colour_space(&self) -> (String, &str) {
+        match (self.colour, self.sampling) {
+            (Some(word), _) => (word[1..].to_string(), word),
+            (None, Some(word)) => (word[SAMPLING.len()..].to_ascii_lowercase(), word),
+            (None, None) => ("420".to_string(), ""),
+        }
+    }
+}
+
 impl Header {
     /// Reads the first line, without its end, of a clip.
     pub fn parse(line: &[u8]) -> Result<Self> {
         let shown = String::from_utf8_lossy(line);
         let words = shown.strip_prefix(MAGIC);
-        let Some(words) = words.filter(|words| words.starts_with(' ')) else {
+        let Some(words) = words.filter(|words| words.is_empty() || words.starts_with(' ')) else {
             let start: String = shown.chars().take(16).collect();
             bail!(
                 "not a YUV4MPEG2 clip: it begins with {start:?}, not with {MAGIC:?}. ffmpeg makes one: \
                  ffmpeg -i INPUT -strict -1 OUTPUT.y4m"
             );
         };
-        let (mut width, mut height, mut space, mut interlaced) = (None, None, "420", false);
-        for word in words.split_ascii_whitespace() {
-            let (tag, value) = word.split_at(word.chars().next().map_or(0, char::len_utf8));
-            match tag {
-                "W" => width = Some(side("width", word, value)?),
-                "H" => height = Some(side("height", word, value)?),
-                "C" => space = value,
-                "I" => interlaced = matches!(value, "t" | "b" | "m"),
-                _ => {}
-            }
-        }
-        let width = width.context("the header has no width (W)")?;
-        let height = height.context("the header has no height (H)")?;
-        let Some(&(_, format, depth)) = COLOUR_SPACES.iter().find(|(name, ..)| *name == space)
-        else {
-            let names = COLOUR_SPACES.map(|(name, ..)| name).join(", ");
-            bail!("the header has the colour space C{space}, which isn't read. These are: {names}");
+        let tags = Tags::read(words)?;
+        let width = side("width", tags.width.context("the header has no width (W)")?)?;
+        let height = side(
+            "height",
+            tags.height.context("the header has no height (H)")?,
+        )?;
+        let (space, word) = tags.colour_space();
+        let (format, depth) = colour_space(&space, word)?;
+        let refuse = |refusal| {
+            bail!(
+                "the frames are {width}×{height}: {}",
+                refused::words(refusal)
+            )
         };
-        let refuse = |refusal| bail!("the frames are {width}×{height}. {refusal}");
         if width.max(height) > SIDE_LIMIT {
             return refuse(Refusal::SideAbove4096);
         }
@@ -71,7 +93,7 @@ impl Header {
         Ok(Header {
             line: line.to_vec(),
             shape: Shape::new(width, height, depth, format),
-            interlaced,
+            interlaced: matches!(tags.interlacing, Some("It" | "Ib" | "Im")),
         })
     }
 
@@ -86,8 +108,9 @@ impl Header {
     }
 }
 
-fn side(name: &str, word: &str, value: &str) -> Result<usize> {
-    value
+/// The number after a word's first letter.
+fn side(name: &str, word: &str) -> Result<usize> {
+    word[1..]
         .parse()
         .with_context(|| format!("the header's {name} isn't a number: {word:?}"))
 }

@@ -1,5 +1,6 @@
 //! YUV4MPEG2 clips: a header line, then for each frame a line and its planes, 16 bits little-endian above 8.
 
+mod colour;
 mod header;
 mod reader;
 mod writer;
@@ -11,6 +12,7 @@ pub use writer::Writer;
 use grain::{Frame, Shape};
 
 /// One frame's planes, and what its line says after the word FRAME.
+#[derive(Default)]
 pub struct Picture {
     pub words: String,
     pub y: Vec<u16>,

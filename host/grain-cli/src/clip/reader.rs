@@ -1,5 +1,8 @@
+//! A clip that is read.
+
 use super::header::MAGIC;
 use super::{Header, Picture};
+use crate::files::{Stream, shown};
 use anyhow::{Context, Result, bail};
 use std::fs::File;
 use std::io::{self, BufRead, BufReader, Read};
@@ -18,6 +21,8 @@ pub struct Reader {
     input: BufReader<Box<dyn Read + Send>>,
     /// Frames read or passed over.
     at: usize,
+    /// The first frame that is wanted.
+    pub from: usize,
     bytes: Vec<u8>,
 }
 
@@ -25,9 +30,13 @@ impl Reader {
     /// Opens a clip and reads its header; `-` is standard input.
     pub fn open(path: &Path) -> Result<Self> {
         let (name, input, length): (_, Box<dyn Read + Send>, _) = if path == Path::new("-") {
-            ("standard input".to_string(), Box::new(io::stdin()), None)
+            (
+                Stream::Input.name().to_string(),
+                Box::new(io::stdin()),
+                None,
+            )
         } else {
-            let name = path.display().to_string();
+            let name = shown(path);
             let file = File::open(path).with_context(|| name.clone())?;
             let about = file.metadata().with_context(|| name.clone())?;
             if about.is_dir() {
@@ -48,15 +57,17 @@ impl Reader {
             expected,
             input,
             at: 0,
+            from: 0,
             bytes: Vec::new(),
         })
     }
 
-    /// The next frame, or `None` at the end of the clip.
-    pub fn picture(&mut self) -> Result<Option<Picture>> {
+    /// Reads the next frame into a picture of the clip's shape; false at the end of the clip.
+    pub fn picture(&mut self, picture: &mut Picture) -> Result<bool> {
         let Some(words) = self.frame_line()? else {
-            return Ok(None);
+            return Ok(false);
         };
+        picture.words = words;
         self.bytes.clear();
         let wanted = self.header.frame_bytes();
         let got = (&mut self.input)
@@ -64,25 +75,23 @@ impl Reader {
             .read_to_end(&mut self.bytes)
             .with_context(|| self.name.clone())?;
         self.whole(got)?;
-        let shape = self.header.shape;
         let wide = self.header.bytes_per_sample();
-        let (y, chroma) = self.bytes.split_at(shape.luma_samples() * wide);
-        let (cb, cr) = chroma.split_at(shape.chroma_samples() * wide);
-        let samples = |plane: &[u8]| -> Vec<u16> {
+        let mut rest = &self.bytes[..];
+        for plane in [&mut picture.y, &mut picture.cb, &mut picture.cr] {
+            let (bytes, after) = rest.split_at(plane.len() * wide);
+            rest = after;
             match wide {
-                1 => plane.iter().map(|&byte| byte.into()).collect(),
+                1 => plane
+                    .iter_mut()
+                    .zip(bytes)
+                    .for_each(|(s, &b)| *s = b.into()),
                 _ => plane
-                    .chunks_exact(2)
-                    .map(|pair| u16::from_le_bytes([pair[0], pair[1]]))
-                    .collect(),
+                    .iter_mut()
+                    .zip(bytes.chunks_exact(2))
+                    .for_each(|(s, pair)| *s = u16::from_le_bytes([pair[0], pair[1]])),
             }
-        };
-        Ok(Some(Picture {
-            words,
-            y: samples(y),
-            cb: samples(cb),
-            cr: samples(cr),
-        }))
+        }
+        Ok(true)
     }
 
     /// Passes over the next frame; false at the end of the clip.
@@ -133,8 +142,9 @@ impl Reader {
 
     /// What can still be had of a damaged clip.
     fn before(&self) -> String {
-        match self.at {
-            0 => "No frame before it is whole.".to_string(),
+        match self.at.saturating_sub(self.from) {
+            0 if self.at == 0 => "No frame before it is whole.".to_string(),
+            0 => format!("--from {} leaves no whole frame before it.", self.from),
             n => format!("What is before it is whole: --frames {n} takes that."),
         }
     }

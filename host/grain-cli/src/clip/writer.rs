@@ -1,3 +1,5 @@
+//! A clip that is written.
+
 use super::{Header, Picture};
 use std::io::{self, Write};
 

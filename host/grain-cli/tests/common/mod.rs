@@ -2,6 +2,7 @@
 #![allow(dead_code)] // each test file uses a part
 
 use grain::{Format, Frame, Shape};
+use serde_json::{Value, json};
 use std::fs;
 use std::path::{Path, PathBuf};
 use std::process::{Command, Output, Stdio};
@@ -47,8 +48,22 @@ pub fn written(folder: &Path, words: &[&str]) -> Vec<u8> {
     run.stdout
 }
 
-pub fn json(folder: &Path, words: &[&str]) -> serde_json::Value {
-    serde_json::from_slice(&written(folder, words)).unwrap()
+/// The report's lines: its frames as a list, and its clip. Each line says what it is.
+pub fn json(folder: &Path, words: &[&str]) -> Value {
+    let lines = String::from_utf8(written(folder, words)).unwrap();
+    let mut frames = parsed(&lines);
+    let clip = frames.pop().unwrap();
+    let kinds = frames.iter().map(|frame| (frame, "frame"));
+    for (line, kind) in kinds.chain([(&clip, "clip")]) {
+        assert_eq!((&line["schema"], &line["kind"]), (&json!(1), &json!(kind)));
+    }
+    json!({"frames": frames, "clip": clip})
+}
+
+/// JSON Lines.
+pub fn parsed(lines: &str) -> Vec<Value> {
+    let parse = |line| serde_json::from_str(line).unwrap();
+    lines.lines().map(parse).collect()
 }
 
 /// What a run that must fail says, in one line.

@@ -1,0 +1,86 @@
+//! The figures of one frame, and of it and the next. Field names are those of the JSON report (docs/REPORT.md).
+
+mod fit;
+mod gate;
+mod planes;
+mod profile;
+
+pub use fit::Fit;
+pub use gate::{FRAME_LIMIT, Gate, LEAST_SIGMA, ROW_LIMIT};
+pub use planes::Planes;
+pub use profile::{Bin, Profile};
+
+use crate::noise::{Autocorrelation, noise};
+use crate::still::{Still, Task};
+use anyhow::Result;
+use grain::Format;
+use serde::Serialize;
+use std::sync::Arc;
+
+#[derive(Debug, Clone, Serialize)]
+pub struct FrameFigures {
+    /// From 0.
+    pub frame: usize,
+    /// The grain seed, the frame's number taken as its order hint.
+    pub seed: u16,
+    pub profile: Planes<Profile>,
+    /// Against the next frame; the last has none.
+    pub gates: Option<Planes<Gate>>,
+    /// At lags 1, 2 and 3; `None` is "no fit".
+    pub fits: Vec<Option<Fit<i32>>>,
+    /// How far chroma's noise follows luma's, in 64ths, where no neighbour has a tap.
+    pub chroma_taps: Option<ChromaTaps<i32>>,
+}
+
+#[derive(Debug, Clone, Copy, Serialize)]
+pub struct ChromaTaps<T> {
+    pub cb: T,
+    pub cr: T,
+}
+
+/// The figures of a task's frame.
+pub fn figures(task: &Task) -> Result<FrameFigures> {
+    let still = &*task.first;
+    let pair = still.pair()?;
+    let asked = |refusal| still.refused(refusal);
+    let estimate = grain::noise_estimate(&pair).map_err(asked)?;
+    let taps = grain::fit_chroma_corr(&pair).map_err(asked)?;
+    let colour = pair.shape().format != Format::Monochrome;
+    let fit = |lag| {
+        let found = grain::fit_ar_lag(&pair, lag).map_err(asked)?;
+        Ok(found.map(|found| Fit::new(found, colour)))
+    };
+    let gates = |second: &Arc<Still>| gate::gates(still, second, &estimate);
+    let (source, denoised, depth) = (pair.frame(), pair.denoised(), pair.shape().depth);
+    let chroma = |found, source, denoised| {
+        colour.then(|| Profile::of::<4>(found, [source, denoised], depth))
+    };
+    Ok(FrameFigures {
+        frame: still.index,
+        seed: grain::grain_seed_for(still.index as u32),
+        profile: Planes {
+            y: Profile::of(&estimate.luma, [source.y, denoised.y], depth),
+            cb: chroma(&estimate.cb, source.cb, denoised.cb),
+            cr: chroma(&estimate.cr, source.cr, denoised.cr),
+        },
+        gates: task.second.as_ref().map(gates).transpose()?,
+        fits: (1..=3).map(fit).collect::<Result<_>>()?,
+        chroma_taps: colour.then_some(ChromaTaps {
+            cb: taps.cb,
+            cr: taps.cr,
+        }),
+    })
+}
+
+/// The autocorrelation of each plane's noise.
+pub fn autocorrelation(still: &Still) -> Result<Planes<Autocorrelation>> {
+    let pair = still.pair()?;
+    let (source, denoised, shape) = (pair.frame(), pair.denoised(), pair.shape());
+    let of = |source, denoised, width| Autocorrelation::of(&noise(source, denoised), width);
+    let colour = shape.format != Format::Monochrome;
+    Ok(Planes {
+        y: of(source.y, denoised.y, shape.width),
+        cb: colour.then(|| of(source.cb, denoised.cb, shape.chroma_width())),
+        cr: colour.then(|| of(source.cr, denoised.cr, shape.chroma_width())),
+    })
+}

@@ -1,0 +1,117 @@
+//! What README shows is what there is: the report, the plot, and the two examples.
+
+mod common;
+
+use common::{folder, sample, written};
+use std::fs;
+use std::path::{Path, PathBuf};
+use std::process::Command;
+
+fn root() -> PathBuf {
+    Path::new(env!("CARGO_MANIFEST_DIR")).join("../..")
+}
+
+/// README's block of a kind, without its fences.
+fn block(kind: &str) -> String {
+    let readme = fs::read_to_string(root().join("README.md")).unwrap();
+    let (_, rest) = readme.split_once(&format!("\n```{kind}\n")).unwrap();
+    let (block, _) = rest.split_once("```").unwrap();
+    block.to_string()
+}
+
+/// The words of a plot, line by line.
+fn texts(svg: &str) -> Vec<&str> {
+    svg.lines().filter(|line| !line.starts_with('<')).collect()
+}
+
+#[test]
+fn the_report_and_the_plot() {
+    let (samples, _) = sample();
+    let plot = samples.join("readme.svg");
+    let words = [
+        "report",
+        "grain.y4m",
+        "--denoised",
+        "clean.y4m",
+        "--brief",
+        "--plot",
+        "readme.svg",
+        "--force",
+    ];
+    let shown = String::from_utf8(written(samples, &words)).unwrap();
+    assert_eq!(block("text"), shown);
+    let committed = fs::read_to_string(root().join("docs/grain.svg")).unwrap();
+    assert_eq!(texts(&committed), texts(&fs::read_to_string(plot).unwrap()));
+}
+
+/// What the demo shows last: each true coefficient, and the one found within half a 64th and a bit.
+#[test]
+fn the_true_coefficients_beside_those_found() {
+    let (samples, _) = sample();
+    let words = [
+        "report",
+        "grain.y4m",
+        "--denoised",
+        "clean.y4m",
+        "--brief",
+        "--json",
+    ];
+    fs::write(samples.join("beside.json"), written(samples, &words)).unwrap();
+    let run = Command::new("python3")
+        .arg(root().join("host/sample"))
+        .arg("--beside")
+        .stdin(fs::File::open(samples.join("beside.json")).unwrap())
+        .output()
+        .unwrap();
+    assert!(run.status.success());
+    let shown = String::from_utf8(run.stdout).unwrap();
+    let row = |line: &str| -> Vec<f64> {
+        line.split_whitespace()
+            .filter_map(|word| word.parse().ok())
+            .collect()
+    };
+    let lines: Vec<&str> = shown.lines().skip(2).collect();
+    let counts: Vec<usize> = lines
+        .chunks(2)
+        .map(|pair| {
+            let [known, found] = [row(pair[0]), row(pair[1])];
+            assert!(
+                pair[0].contains("true") && pair[1].contains("found"),
+                "{shown}"
+            );
+            assert!(
+                known.iter().zip(&found).all(|(a, b)| (a - b).abs() < 0.6),
+                "{shown}"
+            );
+            assert_eq!(known.len(), found.len());
+            known.len()
+        })
+        .collect();
+    assert_eq!(counts, [4, 5, 5], "{shown}");
+}
+
+#[test]
+fn the_examples() {
+    let c = root().join("examples/figures.c");
+    assert_eq!(block("c"), fs::read_to_string(&c).unwrap());
+    let rust = root().join("host/grain/examples/figures.rs");
+    assert_eq!(block("rust"), fs::read_to_string(rust).unwrap());
+    let archive =
+        std::env::var_os("GRAIN_LIB_DIR").map_or(root().join("target/staticlib"), PathBuf::from);
+    let built = folder("example").join("figures");
+    let compiled = Command::new("gcc")
+        .args(["-std=c11", "-pedantic", "-Wall", "-Wextra", "-Werror", "-I"])
+        .arg(root().join("include"))
+        .arg(&c)
+        .arg(archive.join("libgrain.a"))
+        .arg("-o")
+        .arg(&built)
+        .status()
+        .unwrap();
+    assert!(compiled.success());
+    let run = Command::new(built).output().unwrap();
+    assert_eq!(
+        String::from_utf8(run.stdout).unwrap(),
+        "sigma 0.81 in 8-bit steps\n"
+    );
+}
