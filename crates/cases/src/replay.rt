@@ -2,8 +2,8 @@
 use crate::answers::answer;
 use crate::case::Answer;
 use crate::case::Case;
-use crate::lines::byte_at;
 use crate::lines::case_at;
+use crate::lines::word_at;
 use crate::say::say;
 use crate::say::say_word;
 use libc::STDOUT_FILENO;
@@ -52,7 +52,7 @@ fn compare(name: &[u8], call: u64, list: &[u8]) {
     let mut line = 0;
     let mut differences = 0;
     while at < list.len() {
-        let end = byte_at(list, at, b'\n');
+        let end = word_at(list, at, b'\n').end;
         line += 1;
         differences += difference(name, call, line, case_at(&list[at..end], 0));
         at = end + 1;

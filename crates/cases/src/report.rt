@@ -1,8 +1,8 @@
 // The report: the standard input has a line for each of its lines, with the name, a colon, and the numbers of what is asked: a call,
 // counted from 0 to 13, whose recorded list is replayed; or what worked.rt counts, and the numbers of the case.
 use crate::case::Case;
-use crate::lines::byte_at;
 use crate::lines::case_at;
+use crate::lines::word_at;
 use crate::replay::replay;
 use crate::say::say;
 use crate::worked::worked;
@@ -21,15 +21,16 @@ fn figure(name: &[u8], c: Case) {
 
 // A line of the input.
 fn entry(line: &[u8]) {
-    let colon = byte_at(line, 0, b':');
-    figure(&line[0..colon], case_at(line, colon + 1));
+    let name = word_at(line, 0, b':');
+    let colon = name.end;
+    figure(&line[0..colon], case_at(line, name.next));
 }
 
 // Each line of the input.
 fn write(text: &[u8]) {
     let mut at = 0;
     while at < text.len() {
-        let end = byte_at(text, at, b'\n');
+        let end = word_at(text, at, b'\n').end;
         entry(&text[at..end]);
         at = end + 1;
     }
