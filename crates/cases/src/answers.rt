@@ -10,8 +10,8 @@ use crate::plane_calls;
 pub fn answer(call: u64, c: Case) -> Answer {
     match call {
         0 | 1 | 2 => plane_calls::answer(call, c),
-        3 => gate_calls::film_grain_probe(c),
-        4 => gate_calls::chroma_noise_gate(c),
+        3 => gate_calls::answer(call, c, 2),
+        4 => gate_calls::answer(call, c, 0),
         9 => number_calls::ar_positions(c),
         10 => number_calls::solve_normal(c),
         11 => number_calls::quant_ar(c),

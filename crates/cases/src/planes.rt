@@ -14,7 +14,7 @@ pub const ROOM: usize = 8256;
 pub const ALL: usize = 49536;
 
 // A pair is a source and its copy: 1 to 3, as the source.
-fn pair_of(plane: u64) -> u32 {
+fn pair_of(plane: u64) -> u64 {
     match plane {
         1 | 4 => 1,
         2 | 5 => 2,
@@ -79,7 +79,7 @@ fn moved(level: u16, rises: bool, size: u16, top: u16) -> u16 {
 // of a plane that is a single row.
 
 // Whether the sign of a column is positive.
-fn sign_of(c: Case, pair: u32, column: u64) -> bool {
+fn sign_of(c: Case, pair: u64, column: u64) -> bool {
     if pair == 1 {
         return (c.share >> (column % 64)) % 2 == 1;
     }
@@ -87,7 +87,7 @@ fn sign_of(c: Case, pair: u32, column: u64) -> bool {
 }
 
 // Whether a noise is positive.
-fn is_up(c: Case, pair: u32, column: u64, draw: u32) -> bool {
+fn is_up(c: Case, pair: u64, column: u64, draw: u32) -> bool {
     match c.kind % 16 {
         4 | 10 | 13 | 15 => true,
         6 | 11 => column % 2 == 0,
@@ -127,7 +127,7 @@ fn size_of(c: Case, top: u16, column: u64, draw: u32) -> u16 {
 }
 
 // The first pair's noise may be an eighth of the others'.
-fn lessened(kind: u64, pair: u32, size: u16) -> u16 {
+fn lessened(kind: u64, pair: u64, size: u16) -> u16 {
     if pair == 1 {
         if kind / 16 == 3 {
             return size >> 3;
@@ -137,7 +137,7 @@ fn lessened(kind: u64, pair: u32, size: u16) -> u16 {
 }
 
 // Of 16 noises, as many as the share are those of the first pair.
-fn drawn(share: u64, pair: u32, common: u32, own: u32) -> u32 {
+fn drawn(share: u64, pair: u64, common: u32, own: u32) -> u32 {
     if pair == 1 {
         return common;
     }
@@ -192,7 +192,7 @@ fn column_of(i: usize, columns: usize) -> u64 {
 }
 
 // The samples that the shape asks for: the first `lumas` pairs are of luma's size, the others of chroma's.
-fn samples_of(c: Case, lumas: u32, plane: u64) -> usize {
+fn samples_of(c: Case, lumas: u64, plane: u64) -> usize {
     if pair_of(plane) <= lumas {
         return c.luma;
     }
@@ -200,7 +200,7 @@ fn samples_of(c: Case, lumas: u32, plane: u64) -> usize {
 }
 
 // The columns of a plane.
-fn columns_of(c: Case, lumas: u32, plane: u64) -> usize {
+fn columns_of(c: Case, lumas: u64, plane: u64) -> usize {
     if c.kind / 16 == 5 {
         return ROOM;
     }
@@ -215,7 +215,7 @@ fn columns_of(c: Case, lumas: u32, plane: u64) -> usize {
 }
 
 // The samples of a plane that begins at a place, and one more.
-fn fill(values: &mut [u16], at: usize, c: Case, lumas: u32, plane: u64) {
+fn fill(values: &mut [u16], at: usize, c: Case, lumas: u64, plane: u64) {
     let samples = samples_of(c, lumas, plane);
     let columns = columns_of(c, lumas, plane);
     if values.len() <= at {
@@ -242,7 +242,7 @@ fn fill(values: &mut [u16], at: usize, c: Case, lumas: u32, plane: u64) {
 }
 
 // A plane by itself.
-pub fn plane(c: Case, lumas: u32, plane: u64) -> [u16; ROOM]
+pub fn plane(c: Case, lumas: u64, plane: u64) -> [u16; ROOM]
     ensures { λ r. ⌜ 8256 ≡ length r ⌝ }
 {
     let mut values = [0; ROOM];
@@ -251,7 +251,7 @@ pub fn plane(c: Case, lumas: u32, plane: u64) -> [u16; ROOM]
 }
 
 // All six planes.
-pub fn planes(c: Case, lumas: u32) -> [u16; ALL] {
+pub fn planes(c: Case, lumas: u64) -> [u16; ALL] {
     let mut all = [0; ALL];
     fill(&mut all, 0, c, lumas, 1);
     fill(&mut all, 8256, c, lumas, 2);
@@ -263,7 +263,7 @@ pub fn planes(c: Case, lumas: u32) -> [u16; ALL] {
 }
 
 // How many samples of a plane are lent.
-pub fn lent(c: Case, lumas: u32, plane: u64) -> usize
+pub fn lent(c: Case, lumas: u64, plane: u64) -> usize
     ensures { λ r. ⌜ r ≤ 8256 ⌝ }
 {
     let samples = samples_of(c, lumas, plane);
@@ -282,7 +282,7 @@ pub fn lent(c: Case, lumas: u32, plane: u64) -> usize
 }
 
 // The samples of a plane that are lent, of all.
-pub fn part<'a>(all: &'a [u16], c: Case, lumas: u32, plane: u64) -> &'a [u16] {
+pub fn part<'a>(all: &'a [u16], c: Case, lumas: u64, plane: u64) -> &'a [u16] {
     let at = start_of(plane);
     let end = at + lent(c, lumas, plane);
     if end <= all.len() {

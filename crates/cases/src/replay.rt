@@ -1,6 +1,5 @@
 // The recorded list: what the Rust answered, and the numbers of each refused call, against what the calls answer here.
 use crate::answers::answer;
-use crate::case::Answer;
 use crate::case::Case;
 use crate::lines::case_at;
 use crate::lines::word_at;
@@ -8,14 +7,6 @@ use crate::say::say;
 use crate::say::say_word;
 use libc::STDOUT_FILENO;
 ghost use Prim.Native.Nat.{_≤_};
-
-// Whether an answer is the recorded one.
-fn is_recorded(a: Answer, c: Case) -> bool {
-    if a.refusal as u64 == c.refusal {
-        return a.value == c.answer;
-    }
-    false
-}
 
 // What a line was answered with.
 fn say_answer(name: &[u8], word: &[u8], line: usize, refusal: u64, value: u64) {
@@ -31,8 +22,10 @@ fn difference(name: &[u8], call: u64, line: usize, c: Case) -> usize
     ensures { λ r. ⌜ r ≤ 1 ⌝ }
 {
     let a = answer(call, c);
-    if is_recorded(a, c) {
-        return 0;
+    if a.refusal as u64 == c.refusal {
+        if a.value == c.answer {
+            return 0;
+        }
     }
     say_answer(name, b" line ", line, a.refusal as u64, a.value);
     say_answer(name, b" recorded, line ", line, c.refusal, c.answer);
