@@ -1,6 +1,6 @@
 // A line of a list: whole numbers with spaces between. A line of the report has a name and a colon before them.
 use crate::case::Case;
-ghost use Prim.Native.Nat.{_≤_, min};
+ghost use Prim.Native.Nat.{_+_, _≤_, min};
 ghost use lib.ListN.{length};
 
 // The bytes from a place up to a stop or the end: the number that they write, where they end, and where the next ones begin.
@@ -37,6 +37,17 @@ pub fn word_at(text: &[u8], at: usize, stop: u8) -> Word
         end: text.len(),
         next: text.len(),
     }
+}
+
+// The line that begins at a place.
+pub fn line_at<'a>(text: &'a [u8], at: usize) -> &'a [u8]
+    ensures { λ r. ⌜ min at (length (now (text .entry))) + length (now r) ≤ length (now (text .entry)) ⌝ }
+{
+    let end = word_at(text, at, b'\n').end;
+    if at <= end {
+        return &text[at..end];
+    }
+    &text[0..0]
 }
 
 // The numbers of a line, from a place on.

@@ -2,7 +2,7 @@
 use crate::answers::answer;
 use crate::case::Case;
 use crate::lines::case_at;
-use crate::lines::word_at;
+use crate::lines::line_at;
 use crate::say::say;
 use crate::say::say_word;
 use libc::STDOUT_FILENO;
@@ -42,15 +42,16 @@ fn say_counts(name: &[u8], calls: usize, differences: usize) {
 // Every call of a list.
 fn compare(name: &[u8], call: u64, list: &[u8]) {
     let mut at = 0;
-    let mut line = 0;
+    let mut calls = 0;
     let mut differences = 0;
     while at < list.len() {
-        let end = word_at(list, at, b'\n').end;
-        line += 1;
-        differences += difference(name, call, line, case_at(&list[at..end], 0));
-        at = end + 1;
+        let line = line_at(list, at);
+        let c = case_at(line, 0);
+        calls += 1;
+        differences += difference(name, call, calls, c);
+        at += line.len() + 1;
     }
-    say_counts(name, line, differences);
+    say_counts(name, calls, differences);
 }
 
 // A list is a file of the call's name.

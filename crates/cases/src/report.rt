@@ -2,6 +2,7 @@
 // counted from 0 to 13, whose recorded list is replayed; or what worked.rt counts, and the numbers of the case.
 use crate::case::Case;
 use crate::lines::case_at;
+use crate::lines::line_at;
 use crate::lines::word_at;
 use crate::replay::replay;
 use crate::say::say;
@@ -30,9 +31,9 @@ fn entry(line: &[u8]) {
 fn write(text: &[u8]) {
     let mut at = 0;
     while at < text.len() {
-        let end = word_at(text, at, b'\n').end;
-        entry(&text[at..end]);
-        at = end + 1;
+        let line = line_at(text, at);
+        entry(line);
+        at += line.len() + 1;
     }
 }
 

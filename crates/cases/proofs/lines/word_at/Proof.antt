@@ -1,7 +1,7 @@
 -- `cases::lines::word_at`: it is safe and ends, at a place that is no earlier. Assumes nothing.
 use Prim.Native.Nat.{_≤_, _-_, min}
 use lib.ListN.{length}
-use borrow.Author.Needs.{needs}
+use native.Mathlib.Omega.{arith}
 use Rattle.cases.proofs.lines.word_at.Statement.{statement}
 use Rattle.cases.proofs.lines.word_at.Tie as tie
 
@@ -17,12 +17,12 @@ word-at-spec =
     (tie.spec
     Inv-loop
     μ-loop
-    (λ c. search needs)
-    (λ c. search needs)
-    (λ c. search needs)
-    (λ c. search needs)
-    (λ c κs. search needs)
-    (λ c. search needs)
-    (λ c. search needs)
-    (λ c. search needs)
-    (λ c. search needs))
+    (λ c. omega arith)
+    (λ c. omega arith)
+    (λ c. omega arith)
+    (λ c. omega arith)
+    (λ c κs. tt)
+    (λ c. omega arith)
+    (λ c. omega arith)
+    (λ c. omega arith)
+    (λ c. omega arith))
