@@ -229,8 +229,7 @@ fn fill(values: &mut [u16], at: usize, c: Case, lumas: u64, plane: u64) {
     for i in 0..samples + 1 {
         common = next(common);
         own = next(own);
-        let j = at + i;
-        values[j] = sample(
+        values[at + i] = sample(
             c,
             plane,
             i == samples / 2,

@@ -7,7 +7,11 @@
 use crate::answers::answer;
 use crate::case::Answer;
 use crate::case::Case;
+use crate::lines::case_at;
+use crate::lines::word_at;
 use crate::reads::read;
+use crate::say::say;
+use libc::STDOUT_FILENO;
 
 // What is shown of an answer: its refusal; its value; its refusal, 1000 where it is none; the bits that the register drew, or its
 // refusal; its figure.
@@ -31,9 +35,17 @@ fn or_else(refusal: u64, value: u64) -> u64 {
 }
 
 // What the line of a worked case asks: 20, 40, 60, 80 or 100 and a call, what is shown of its answer; 120, a read.
-pub fn worked(c: Case) -> u64 {
+fn worked(c: Case) -> u64 {
     if c.answer == 120 {
         return read(c);
     }
     shown(c.answer / 20, answer(c.answer % 20, c))
+}
+
+// A worked case's line: its name, a colon and its numbers.
+pub fn show(line: &[u8]) {
+    let name = word_at(line, 0, b':');
+    let colon = name.end;
+    say(&line[0..colon], worked(case_at(line, name.next)));
+    io::write_all(STDOUT_FILENO, b"\n");
 }

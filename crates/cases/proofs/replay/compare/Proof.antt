@@ -6,10 +6,10 @@ use Rattle.cases.proofs.replay.compare.Statement.{statement}
 use Rattle.cases.proofs.replay.compare.Tie as tie
 
 abbrev Inv-loop : tie.InvT-loop
-Inv-loop name call list at₀ calls₀ differences₀ at calls differences = (calls ≤ at) × (differences ≤ calls)
+Inv-loop name call text at₀ calls₀ differences₀ at calls differences = (calls ≤ at) × (differences ≤ calls)
 
 abbrev μ-loop : tie.MeasureT-loop
-μ-loop name call list at₀ calls₀ differences₀ at calls differences = length list - at
+μ-loop name call text at₀ calls₀ differences₀ at calls differences = length text - at
 
 pub compare-spec : {M : Type 1} → statement M
 compare-spec =
@@ -19,7 +19,6 @@ compare-spec =
     μ-loop
     (λ c. omega arith)
     (λ c κs. tt)
-    (λ c κs. tt)
     (λ c. omega arith)
     (λ c κs. tt)
     (λ c. omega arith)
@@ -27,5 +26,4 @@ compare-spec =
     (λ c. omega arith)
     (λ c. omega arith)
     (λ c. omega arith)
-    (λ c κs. tt)
     (λ c. omega arith))
