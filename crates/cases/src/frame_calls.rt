@@ -69,13 +69,14 @@ fn bin_of_one(bin: usize, count: u64) -> u64 {
     8
 }
 
-// A figure of a profile: 0 to 7 that bin of luma, where one sample lies in it; 8 to 11 a bin of Cb; 16 the sigma16 of bin 0, which
-// is that of its samples where they are enough, else the plane's.
+// A figure of a profile: 0 to 7 that bin of luma, where it counts one sample; 8 to 11 a bin of Cb; 16 to 23 the sigma16 of a bin of luma,
+// which is that of its samples where they are enough, else the plane's.
 fn estimate_figure(luma: profile::LumaProfile, cb: profile::ChromaProfile, figure: usize) -> u64 {
+    let bin = figure % 8;
     match figure / 8 {
-        0 => bin_of_one(figure % 8, luma.bin_count[figure % 8]),
-        1 => bin_of_one(figure % 4, cb.bin_count[figure % 4]),
-        _ => luma.bin_sigma16[0],
+        0 => bin_of_one(bin, luma.bin_count[bin]),
+        1 => bin_of_one(bin, cb.bin_count[bin % 4]),
+        _ => luma.bin_sigma16[bin],
     }
 }
 
