@@ -7,7 +7,7 @@ pub struct Case {
     pub answer: u64,
     pub kind: u64,
     pub share: u64,
-    pub seed: u64,
+    pub seed: u32,
     pub width: usize,
     pub height: usize,
     // The samples that the shape asks for, of luma and of chroma.
@@ -21,10 +21,11 @@ pub struct Case {
     pub argument: u64,
 }
 
-// What a call answered: its refusal, and the rest as one number.
+// What a call answered: its refusal, the rest as one number, and the figure of it that a worked case shows, 0 where none does.
 pub struct Answer {
     pub refusal: u32,
     pub value: u64,
+    pub figure: u64,
 }
 
 pub fn shape_of(c: Case) -> Shape {

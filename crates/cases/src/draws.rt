@@ -1,5 +1,7 @@
 // Numbers that look random, by shifts and exclusive ors alone: the recorder draws the same ones.
 
+use crate::casts::low32;
+
 // The number after x; 0 stays 0.
 pub fn next(x: u32) -> u32 {
     let a = x ^ (x << 13);
@@ -8,8 +10,8 @@ pub fn next(x: u32) -> u32 {
 }
 
 // Where the numbers of a seed begin; each stream of a seed has its own.
-pub fn start(seed: u32, stream: u32) -> u32 {
-    let x = 0x9e37_79b9 ^ (seed << 8) ^ (stream << 4);
+pub fn start(seed: u32, stream: u64) -> u32 {
+    let x = 0x9e37_79b9 ^ (seed << 8) ^ (low32(stream) << 4);
     next(next(next(next(x))))
 }
 

@@ -1,12 +1,13 @@
 // A line of a list: whole numbers with spaces between. A line of the report has a name and a colon before them.
 use crate::case::Case;
-ghost use Prim.Native.Nat.{_≤_};
+ghost use Prim.Native.Nat.{_+_, _≤_, min};
 ghost use lib.ListN.{length};
 
-// A number of a line, and where the next one begins.
-struct Number {
-    value: u64,
-    next: usize,
+// The bytes from a place up to a stop or the end: the number that they write, where they end, and where the next ones begin.
+pub struct Word {
+    pub value: u64,
+    pub end: usize,
+    pub next: usize,
 }
 
 // 10 x + the digit, in 64 bits.
@@ -15,56 +16,61 @@ fn more(x: u64, b: u8) -> u64 {
     std::num::wrapping_add_u64(ten, (b % 48) as u64)
 }
 
-// The number that begins at a place; 0 where the line ends before it.
-fn number_at(line: &[u8], at: usize) -> Number {
+// The word that begins at a place; past the end it is empty, and writes 0.
+pub fn word_at(text: &[u8], at: usize, stop: u8) -> Word
+    ensures { λ r. ⌜ (min at (length (now (text .entry))) ≤ r .end) × (r .end ≤ length (now (text .entry))) ⌝ }
+{
     let mut value = 0;
-    for i in at..line.len() {
-        let b = line[i];
-        if b < b'0' {
-            return Number { value, next: i + 1 };
+    for i in at..text.len() {
+        let b = text[i];
+        if b == stop {
+            return Word {
+                value,
+                end: i,
+                next: i + 1,
+            };
         }
         value = more(value, b);
     }
-    Number {
+    Word {
         value,
-        next: line.len(),
+        end: text.len(),
+        next: text.len(),
     }
 }
 
-// The first place of a byte from a place on; the end where there is none.
-pub fn byte_at(text: &[u8], at: usize, byte: u8) -> usize
-    requires { ⌜ at ≤ length (now text) ⌝ }
-    ensures { λ r. ⌜ (at ≤ r) × (r ≤ length (now (text .entry))) ⌝ }
+// The line that begins at a place.
+pub fn line_at<'a>(text: &'a [u8], at: usize) -> &'a [u8]
+    ensures { λ r. ⌜ min at (length (now (text .entry))) + length (now r) ≤ length (now (text .entry)) ⌝ }
 {
-    for i in at..text.len() {
-        if text[i] == byte {
-            return i;
-        }
+    let end = word_at(text, at, b'\n').end;
+    if at <= end {
+        return &text[at..end];
     }
-    text.len()
+    &text[0..0]
 }
 
 // The numbers of a line, from a place on.
 pub fn case_at(line: &[u8], at: usize) -> Case {
-    let refusal = number_at(line, at);
-    let answer = number_at(line, refusal.next);
-    let kind = number_at(line, answer.next);
-    let share = number_at(line, kind.next);
-    let seed = number_at(line, share.next);
-    let width = number_at(line, seed.next);
-    let height = number_at(line, width.next);
-    let luma = number_at(line, height.next);
-    let depth = number_at(line, luma.next);
-    let format = number_at(line, depth.next);
-    let chroma = number_at(line, format.next);
-    let fault = number_at(line, chroma.next);
-    let argument = number_at(line, fault.next);
+    let refusal = word_at(line, at, b' ');
+    let answer = word_at(line, refusal.next, b' ');
+    let kind = word_at(line, answer.next, b' ');
+    let share = word_at(line, kind.next, b' ');
+    let seed = word_at(line, share.next, b' ');
+    let width = word_at(line, seed.next, b' ');
+    let height = word_at(line, width.next, b' ');
+    let luma = word_at(line, height.next, b' ');
+    let depth = word_at(line, luma.next, b' ');
+    let format = word_at(line, depth.next, b' ');
+    let chroma = word_at(line, format.next, b' ');
+    let fault = word_at(line, chroma.next, b' ');
+    let argument = word_at(line, fault.next, b' ');
     Case {
         refusal: refusal.value,
         answer: answer.value,
         kind: kind.value,
         share: share.value,
-        seed: seed.value,
+        seed: (seed.value % 0x1_0000_0000) as u32,
         width: width.value as usize,
         height: height.value as usize,
         luma: luma.value as usize,

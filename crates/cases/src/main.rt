@@ -1,5 +1,5 @@
-// Writes the report whose lines the standard input names: the scope's cases that are not proved about the definitions, each with the
-// figure that came out; then each recorded list in data/, with how many calls it has and how many answered otherwise.
+// Writes a report: the scope's cases that are not proved about the definitions, which the standard input has, each with the figure that
+// came out; then each recorded list in data/, with how many calls it has and how many answered otherwise.
 mod answers;
 mod case;
 mod casts;

@@ -12,20 +12,16 @@ use crate::systems::matrix;
 use crate::systems::row;
 use random::Draw;
 
-pub fn solved(c: Case) -> solve::Solved {
-    let seed = low32(c.seed);
-    solve::solve_normal(matrix(c.kind, seed), row(0, 25, seed), c.share as usize)
-}
-
-// Whether there is a solution, its order and its values as a digest.
+// Whether there is a solution, its order and its values as a digest; the figure is whether there is one.
 pub fn solve_normal(c: Case) -> Answer {
-    let s = solved(c);
+    let s = solve::solve_normal(matrix(c.kind, c.seed), row(0, 25, c.seed), c.share as usize);
     let solution = s.solution;
     let values = solution.values;
     let head = mixed(mixed(0, yes(s.found)), solution.order as u64);
     Answer {
         refusal: s.refusal,
         value: floats_into(head, &values),
+        figure: yes(s.found),
     }
 }
 
@@ -36,6 +32,7 @@ fn positions_answer(p: positions::Positions) -> Answer {
     Answer {
         refusal: p.refusal,
         value: coefficients_into(coefficients_into(mixed(0, p.count as u64), &rows), &columns),
+        figure: 0,
     }
 }
 
@@ -47,6 +44,7 @@ pub fn quant_ar(c: Case) -> Answer {
     Answer {
         refusal: 0,
         value: signed(float::quant_ar(float_of(c.kind))),
+        figure: 0,
     }
 }
 
@@ -54,6 +52,7 @@ pub fn grain_seed_for(c: Case) -> Answer {
     Answer {
         refusal: 0,
         value: random::grain_seed_for(low32(c.kind)) as u64,
+        figure: 0,
     }
 }
 
@@ -63,10 +62,12 @@ fn draw_answer(draw: Draw, state: u64) -> Answer {
         Draw::Refused(n) => Answer {
             refusal: n,
             value: state,
+            figure: 0,
         },
         Draw::Value(v) => Answer {
             refusal: 0,
             value: ((v as u64) << 16) | state,
+            figure: 0,
         },
     }
 }

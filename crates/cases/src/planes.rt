@@ -1,7 +1,6 @@
 // The planes of a recorded call, made from its numbers; the recorder makes the same ones. Planes 1 to 3 are sources, 4 to 6 their
 // denoised copies. All six stand in one array, each with room of its own.
 use crate::case::Case;
-use crate::casts::low32;
 use crate::draws::next;
 use crate::draws::start;
 ghost use Prim.Native.Nat.{_≤_};
@@ -15,7 +14,7 @@ pub const ROOM: usize = 8256;
 pub const ALL: usize = 49536;
 
 // A pair is a source and its copy: 1 to 3, as the source.
-fn pair_of(plane: u64) -> u32 {
+fn pair_of(plane: u64) -> u64 {
     match plane {
         1 | 4 => 1,
         2 | 5 => 2,
@@ -80,15 +79,15 @@ fn moved(level: u16, rises: bool, size: u16, top: u16) -> u16 {
 // of a plane that is a single row.
 
 // Whether the sign of a column is positive.
-fn sign_of(c: Case, pair: u32, column: u64) -> bool {
+fn sign_of(c: Case, pair: u64, column: u64) -> bool {
     if pair == 1 {
         return (c.share >> (column % 64)) % 2 == 1;
     }
-    (c.seed >> (column % 64)) % 2 == 1
+    (c.seed as u64 >> (column % 64)) % 2 == 1
 }
 
 // Whether a noise is positive.
-fn is_up(c: Case, pair: u32, column: u64, draw: u32) -> bool {
+fn is_up(c: Case, pair: u64, column: u64, draw: u32) -> bool {
     match c.kind % 16 {
         4 | 10 | 13 | 15 => true,
         6 | 11 => column % 2 == 0,
@@ -128,7 +127,7 @@ fn size_of(c: Case, top: u16, column: u64, draw: u32) -> u16 {
 }
 
 // The first pair's noise may be an eighth of the others'.
-fn lessened(kind: u64, pair: u32, size: u16) -> u16 {
+fn lessened(kind: u64, pair: u64, size: u16) -> u16 {
     if pair == 1 {
         if kind / 16 == 3 {
             return size >> 3;
@@ -137,20 +136,8 @@ fn lessened(kind: u64, pair: u32, size: u16) -> u16 {
     size
 }
 
-// The denoised sample of a level.
-fn drawn_level(c: Case, top: u16, column: u64, own: u32) -> u16 {
-    let drawn = (own / 65536) as u16;
-    match c.kind / 16 {
-        0 => drawn & top,
-        1 => top / 2,
-        4 => (c.share % 65536) as u16,
-        5 => either(column < c.share, 0, 128),
-        _ => drawn & (top >> 4),
-    }
-}
-
 // Of 16 noises, as many as the share are those of the first pair.
-fn drawn(share: u64, pair: u32, common: u32, own: u32) -> u32 {
+fn drawn(share: u64, pair: u64, common: u32, own: u32) -> u32 {
     if pair == 1 {
         return common;
     }
@@ -163,14 +150,27 @@ fn drawn(share: u64, pair: u32, common: u32, own: u32) -> u32 {
 
 // The denoised sample.
 fn level_of(c: Case, top: u16, column: u64, rises: bool, own: u32) -> u16 {
+    let drawn = (own / 65536) as u16;
     match c.kind % 16 {
-        3 | 10 => either(rises, 0, top),
-        _ => drawn_level(c, top, column, own),
+        3 | 10 => return either(rises, 0, top),
+        _ => {}
+    }
+    match c.kind / 16 {
+        0 => drawn & top,
+        1 => top / 2,
+        4 => (c.share % 65536) as u16,
+        5 => either(column < c.share, 0, 128),
+        _ => drawn & (top >> 4),
     }
 }
 
-// The sample of a plane at a column: the level, or the level with its noise.
-fn drawn_sample(c: Case, plane: u64, column: u64, common: u32, own: u32) -> u16 {
+// The sample of a plane at a column: the level, or the level with its noise; the middle one is too high where the fault asks for it.
+fn sample(c: Case, plane: u64, middle: bool, column: u64, common: u32, own: u32) -> u16 {
+    if middle {
+        if c.fault == 24 + plane % 8 {
+            return above_top(c.depth);
+        }
+    }
     let pair = pair_of(plane);
     let top = top_of(c.depth);
     let draw = drawn(c.share, pair, common, own);
@@ -183,16 +183,6 @@ fn drawn_sample(c: Case, plane: u64, column: u64, common: u32, own: u32) -> u16 
     moved(level, rises, lessened(c.kind, pair, size), top)
 }
 
-// A sample of a plane; one that is too high where the fault asks for it.
-fn sample(c: Case, plane: u64, high: bool, column: u64, common: u32, own: u32) -> u16 {
-    if high {
-        if c.fault == 24 + plane % 8 {
-            return above_top(c.depth);
-        }
-    }
-    drawn_sample(c, plane, column, common, own)
-}
-
 // The column of the sample at a place.
 fn column_of(i: usize, columns: usize) -> u64 {
     if columns == 0 {
@@ -201,13 +191,8 @@ fn column_of(i: usize, columns: usize) -> u64 {
     (i % columns) as u64
 }
 
-// Where the draws of a pair begin; those of 0 are common to all pairs.
-fn first_draw(c: Case, pair: u32) -> u32 {
-    start(low32(c.seed), pair)
-}
-
 // The samples that the shape asks for: the first `lumas` pairs are of luma's size, the others of chroma's.
-fn samples_of(c: Case, lumas: u32, plane: u64) -> usize {
+fn samples_of(c: Case, lumas: u64, plane: u64) -> usize {
     if pair_of(plane) <= lumas {
         return c.luma;
     }
@@ -215,7 +200,7 @@ fn samples_of(c: Case, lumas: u32, plane: u64) -> usize {
 }
 
 // The columns of a plane.
-fn columns_of(c: Case, lumas: u32, plane: u64) -> usize {
+fn columns_of(c: Case, lumas: u64, plane: u64) -> usize {
     if c.kind / 16 == 5 {
         return ROOM;
     }
@@ -230,7 +215,7 @@ fn columns_of(c: Case, lumas: u32, plane: u64) -> usize {
 }
 
 // The samples of a plane that begins at a place, and one more.
-fn fill(values: &mut [u16], at: usize, c: Case, lumas: u32, plane: u64) {
+fn fill(values: &mut [u16], at: usize, c: Case, lumas: u64, plane: u64) {
     let samples = samples_of(c, lumas, plane);
     let columns = columns_of(c, lumas, plane);
     if values.len() <= at {
@@ -239,13 +224,12 @@ fn fill(values: &mut [u16], at: usize, c: Case, lumas: u32, plane: u64) {
     if values.len() - at <= samples {
         return;
     }
-    let mut common = first_draw(c, 0);
-    let mut own = first_draw(c, pair_of(plane));
+    let mut common = start(c.seed, 0);
+    let mut own = start(c.seed, pair_of(plane));
     for i in 0..samples + 1 {
         common = next(common);
         own = next(own);
-        let j = at + i;
-        values[j] = sample(
+        values[at + i] = sample(
             c,
             plane,
             i == samples / 2,
@@ -257,7 +241,7 @@ fn fill(values: &mut [u16], at: usize, c: Case, lumas: u32, plane: u64) {
 }
 
 // A plane by itself.
-pub fn plane(c: Case, lumas: u32, plane: u64) -> [u16; ROOM]
+pub fn plane(c: Case, lumas: u64, plane: u64) -> [u16; ROOM]
     ensures { λ r. ⌜ 8256 ≡ length r ⌝ }
 {
     let mut values = [0; ROOM];
@@ -266,41 +250,38 @@ pub fn plane(c: Case, lumas: u32, plane: u64) -> [u16; ROOM]
 }
 
 // All six planes.
-pub fn planes(c: Case, lumas: u32) -> [u16; ALL] {
+pub fn planes(c: Case, lumas: u64) -> [u16; ALL] {
     let mut all = [0; ALL];
-    for k in 0..6 {
-        fill(&mut all, start_of(k + 1), c, lumas, k + 1);
-    }
+    fill(&mut all, 0, c, lumas, 1);
+    fill(&mut all, 8256, c, lumas, 2);
+    fill(&mut all, 16512, c, lumas, 3);
+    fill(&mut all, 24768, c, lumas, 4);
+    fill(&mut all, 33024, c, lumas, 5);
+    fill(&mut all, 41280, c, lumas, 6);
     all
 }
 
-// How many samples of a plane are lent, of those that the shape asks for.
-fn lent_of(fault: u64, plane: u64, samples: usize) -> usize
+// How many samples of a plane are lent.
+pub fn lent(c: Case, lumas: u64, plane: u64) -> usize
     ensures { λ r. ⌜ r ≤ 8256 ⌝ }
 {
+    let samples = samples_of(c, lumas, plane);
     if ROOM <= samples {
         return ROOM;
     }
-    if fault == 8 + plane % 8 {
+    if c.fault == 16 + plane % 8 {
+        return samples + 1;
+    }
+    if c.fault == 8 + plane % 8 {
         if 0 < samples {
             return samples - 1;
         }
     }
-    if fault == 16 + plane % 8 {
-        return samples + 1;
-    }
     samples
 }
 
-// How many samples of a plane are lent.
-pub fn lent(c: Case, lumas: u32, plane: u64) -> usize
-    ensures { λ r. ⌜ r ≤ 8256 ⌝ }
-{
-    lent_of(c.fault, plane, samples_of(c, lumas, plane))
-}
-
 // The samples of a plane that are lent, of all.
-pub fn part<'a>(all: &'a [u16], c: Case, lumas: u32, plane: u64) -> &'a [u16] {
+pub fn part<'a>(all: &'a [u16], c: Case, lumas: u64, plane: u64) -> &'a [u16] {
     let at = start_of(plane);
     let end = at + lent(c, lumas, plane);
     if end <= all.len() {

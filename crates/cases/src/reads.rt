@@ -28,7 +28,7 @@ pub fn read(c: Case) -> u64 {
         &samples[0..count],
         c.kind as usize,
         c.share as usize,
-        place_of(c.seed),
+        place_of(c.seed as u64),
         place_of(c.width as u64),
     ))
 }

@@ -1,42 +1,36 @@
-// The report: the standard input has a line for each of its lines, with the name, a colon, and the numbers of what is asked: a call,
-// counted from 0 to 13, whose recorded list is replayed; or what worked.rt counts, and the numbers of the case.
-use crate::case::Case;
-use crate::lines::byte_at;
-use crate::lines::case_at;
+// The report: the standard input has a line for each worked case, with its name, a colon and its numbers; then each recorded list is
+// replayed, by the name of its call, which is counted from 0 to 13.
+use crate::replay::WORKED;
+use crate::replay::compare;
 use crate::replay::replay;
-use crate::say::say;
-use crate::worked::worked;
 use libc::STDIN_FILENO;
-use libc::STDOUT_FILENO;
 
-// A line of the report: of a list, or of a worked case.
-fn figure(name: &[u8], c: Case) {
-    if c.answer < 20 {
-        replay(name, c.answer);
-        return;
-    }
-    say(name, worked(c));
-    io::write_all(STDOUT_FILENO, b"\n");
+// The calls on planes and frames.
+fn replay_planes() {
+    replay(b"denoise_plane", 0);
+    replay(b"plane_sigma16", 1);
+    replay(b"lag_h_rho", 2);
+    replay(b"film_grain_probe", 3);
+    replay(b"chroma_noise_gate", 4);
+    replay(b"denoise_frame", 5);
+    replay(b"noise_estimate", 6);
+    replay(b"fit_chroma_corr", 7);
+    replay(b"fit_ar_lag", 8);
 }
 
-// A line of the input.
-fn entry(line: &[u8]) {
-    let colon = byte_at(line, 0, b':');
-    figure(&line[0..colon], case_at(line, colon + 1));
-}
-
-// Each line of the input.
-fn write(text: &[u8]) {
-    let mut at = 0;
-    while at < text.len() {
-        let end = byte_at(text, at, b'\n');
-        entry(&text[at..end]);
-        at = end + 1;
-    }
+// The calls on numbers.
+fn replay_numbers() {
+    replay(b"ar_positions", 9);
+    replay(b"solve_normal", 10);
+    replay(b"quant_ar", 11);
+    replay(b"grain_seed_for", 12);
+    replay(b"random_register", 13);
 }
 
 pub fn run() {
     let mut text = io::large_buffer();
     let n = io::read_full(STDIN_FILENO, &mut text);
-    write(&text[..n]);
+    compare(b"worked", WORKED, &text[..n]);
+    replay_planes();
+    replay_numbers();
 }

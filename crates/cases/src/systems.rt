@@ -76,7 +76,7 @@ fn entry(kind: u64, r: u64, c: u64, draw: u32) -> f64 {
 
 pub fn row(kind: u64, r: usize, seed: u32) -> [f64; 25] {
     let mut values = [0.0; 25];
-    let mut draw = start(seed, (r % 0x1_0000_0000) as u32);
+    let mut draw = start(seed, r as u64);
     for c in 0..25 {
         draw = next(draw);
         values[c] = entry(kind, r as u64, c as u64, draw);

@@ -7,66 +7,22 @@
 use crate::answers::answer;
 use crate::case::Answer;
 use crate::case::Case;
-use crate::casts::yes;
-use crate::frame_calls::fit_of;
-use crate::frame_calls::profile_of;
-use crate::number_calls::solved;
-use crate::planes::planes;
+use crate::lines::case_at;
+use crate::lines::word_at;
 use crate::reads::read;
+use crate::say::say;
+use libc::STDOUT_FILENO;
 
-// The first place that holds a 1.
-fn place_of_one(counts: &[u64]) -> u64 {
-    for i in 0..counts.len() {
-        if counts[i] == 1 {
-            return i as u64;
-        }
-    }
-    counts.len() as u64
-}
-
-// The profile of a frame that the numbers make.
-fn profile_by(c: Case) -> profile::NoiseEstimate {
-    let all = planes(c, 1);
-    profile_of(c, &all)
-}
-
-// The bin that one luma sample lies in.
-fn luma_bin(c: Case) -> u64 {
-    let e = profile_by(c);
-    let luma = e.luma;
-    let counts = luma.bin_count;
-    place_of_one(&counts)
-}
-
-// The bin that one Cb sample lies in.
-fn cb_bin(c: Case) -> u64 {
-    let e = profile_by(c);
-    let cb = e.cb;
-    let counts = cb.bin_count;
-    place_of_one(&counts)
-}
-
-// The sigma16 of bin 0: of a share of samples that are 1 over 0, where the others have no noise, 16 where they are enough, else the plane's, 2.
-fn first_bin(c: Case) -> u64 {
-    let e = profile_by(c);
-    let luma = e.luma;
-    luma.bin_sigma16[0]
-}
-
-// Whether there is a fit.
-fn fit_found(c: Case) -> u64 {
-    let all = planes(c, 1);
-    yes(fit_of(c, &all).found)
-}
-
-// A figure of what a call answered: its refusal; its answer; its refusal, 1000 where it is none; the bits that the register drew, or its refusal.
-fn of_answer(figure: u64, a: Answer) -> u64 {
+// What is shown of an answer: its refusal; its value; its refusal, 1000 where it is none; the bits that the register drew, or its
+// refusal; its figure.
+fn shown(what: u64, a: Answer) -> u64 {
     let refusal = a.refusal as u64;
-    match figure {
+    match what {
         1 => refusal,
         2 => a.value,
         3 => or_else(refusal, 1000),
-        _ => or_else(refusal, a.value >> 16),
+        4 => or_else(refusal, a.value >> 16),
+        _ => a.figure,
     }
 }
 
@@ -78,23 +34,18 @@ fn or_else(refusal: u64, value: u64) -> u64 {
     refusal
 }
 
-// A figure of a case: the bin of its luma sample; of its Cb sample; sigma16 of bin 0; whether there is a fit; whether there is a solution; a read.
-fn of_case(figure: u64, c: Case) -> u64 {
-    match figure {
-        0 => luma_bin(c),
-        1 => cb_bin(c),
-        2 => first_bin(c),
-        3 => fit_found(c),
-        4 => yes(solved(c).found),
-        _ => read(c),
+// What the line of a worked case asks: 20, 40, 60, 80 or 100 and a call, what is shown of its answer; 120, a read.
+fn worked(c: Case) -> u64 {
+    if c.answer == 120 {
+        return read(c);
     }
+    shown(c.answer / 20, answer(c.answer % 20, c))
 }
 
-// What the line of a worked case asks: 20, 40, 60 or 80 and a call, a figure of what it answers; from 100 on, a figure of the case.
-pub fn worked(c: Case) -> u64 {
-    let what = c.answer;
-    if what < 100 {
-        return of_answer(what / 20, answer(what % 20, c));
-    }
-    of_case(what - 100, c)
+// A worked case's line: its name, a colon and its numbers.
+pub fn show(line: &[u8]) {
+    let name = word_at(line, 0, b':');
+    let colon = name.end;
+    say(&line[0..colon], worked(case_at(line, name.next)));
+    io::write_all(STDOUT_FILENO, b"\n");
 }
