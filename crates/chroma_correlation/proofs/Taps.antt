@@ -9,10 +9,10 @@ use Rattle.float.specs.Steps.{quantAr}
 use Rattle.chroma_correlation.specs.Exact.{tapOf}
 
 module _ (products squares : ℤ) (x : Float) (energy : x ≡ ofScaled 4 squares) where
-  pub flat : {z : Float} → z ≡ tiny → le x z ≡ true → pos 0 ≡ tapOf products squares
+  pub flat : le x tiny ≡ true → pos 0 ≡ tapOf products squares
   unfolding tapOf
-  flat d t = rw (← energy, ← d, t)
+  flat t = rw (← energy, t)
 
-  pub quotient : (y : Float) (k : ℤ) → y ≡ ofScaled 2 products → {z : Float} → z ≡ tiny → le x z ≡ false → k ≡ quantAr (div binary64 y x) → k ≡ tapOf products squares
+  pub quotient : (y : Float) (k : ℤ) → y ≡ ofScaled 2 products → le x tiny ≡ false → k ≡ quantAr (div binary64 y x) → k ≡ tapOf products squares
   unfolding tapOf
-  quotient y k cross d t e = rw (← energy, ← d, t, ← cross) e
+  quotient y k cross t e = rw (← energy, t, ← cross) e

@@ -16,9 +16,9 @@ module _ (entries : ℕ → ℕ → ℤ) (taps : ℕ → ℤ) (lag i : ℕ) (x :
     unfolding cellSum
     sum-whole h e = rw (lt-ltb j (neighbours lag) h) e
 
-    pub sum-quarters : neighbours lag ≤ j → i < neighbours lag → {y : Float} → y ≡ four → x ≡ div binary64 (ofInt binary64 (taps i)) y → x ≡ cellSum entries taps squares lag i j
+    pub sum-quarters : neighbours lag ≤ j → i < neighbours lag → x ≡ div binary64 (ofInt binary64 (taps i)) four → x ≡ cellSum entries taps squares lag i j
     unfolding cellSum
-    sum-quarters h k d e = rw (le-ltb j (neighbours lag) h, lt-ltb i (neighbours lag) k, ← d) e
+    sum-quarters h k e = rw (le-ltb j (neighbours lag) h, lt-ltb i (neighbours lag) k) e
 
     pub sum-squares : neighbours lag ≤ j → neighbours lag ≤ i → x ≡ squares → x ≡ cellSum entries taps squares lag i j
     unfolding cellSum
@@ -28,9 +28,9 @@ module _ (entries : ℕ → ℕ → ℤ) (taps : ℕ → ℤ) (lag i : ℕ) (x :
   unfolding rightSum
   right-whole h e = rw (lt-ltb i (neighbours lag) h) e
 
-  pub right-quarters : neighbours lag ≤ i → {y : Float} → y ≡ four → x ≡ div binary64 (ofInt binary64 (taps (neighbours lag))) y → x ≡ rightSum entries taps lag i
+  pub right-quarters : neighbours lag ≤ i → x ≡ div binary64 (ofInt binary64 (taps (neighbours lag))) four → x ≡ rightSum entries taps lag i
   unfolding rightSum
-  right-quarters h d e = rw (le-ltb i (neighbours lag) h, ← d) e
+  right-quarters h e = rw (le-ltb i (neighbours lag) h) e
 
 -- ---- the used part
 module _ (sum : ℕ → ℕ → Float) (p i j : ℕ) where

@@ -93,18 +93,18 @@ module _ {g : Geometry} (O : Over g) {y y-denoised source denoised : List ℕ} (
   held = record { few = few; columns = le-of-lt wide; rows = le-of-lt high }
 
   -- the squared averages, turned into an f64 once
-  in-sixteenths : (z : ℤ) → z ≡ squared → (x y : Float) → x ≡ ofInt binary64 (toZ w64 (ofZ w64 z)) → y ≡ sixteen → div binary64 x y ≡ ofScaled 4 squared
-  in-sixteenths z e x y d n =
+  in-sixteenths : (z : ℤ) → z ≡ squared → (x : Float) → x ≡ ofInt binary64 (toZ w64 (ofZ w64 z)) → div binary64 x sixteen ≡ ofScaled 4 squared
+  in-sixteenths z e x d =
       let b = le-trans (square-bound O L S held) (lit≤ tt) in
-      (λ i. div binary64 ((d ∙ ap (λ (k : ℤ). ofInt binary64 (toZ w64 (ofZ w64 k))) e ∙ ap (ofInt binary64) (toZ-ofZ w64 squared (sfits w64 squared (lt-of-le-of-lt b (lit< tt))))) i) (n i))
+      ap (λ (t : Float). div binary64 t sixteen) (d ∙ ap (λ (k : ℤ). ofInt binary64 (toZ w64 (ofZ w64 k))) e ∙ ap (ofInt binary64) (toZ-ofZ w64 squared (sfits w64 squared (lt-of-le-of-lt b (lit< tt)))))
       ∙ divided 4 squared sixteen b sixteen-value
 
-  pub component-fit : (z : ℤ) → z ≡ squared → (x : Float) → x ≡ ofInt binary64 (toZ w64 (ofZ w64 z)) → {y : Float} → y ≡ sixteen → (taps : List ℤ) → taps ≡ tabulate (factors lag) tapped
-      → (r : List ℤ) → r ≡ exactFit (entry (noiseOf plane) (plane .width) (plane .height) lag) (at taps) (div binary64 x y) lag (factors lag) → r ≡ chromaFit luma plane lag
-  component-fit z e x d n taps t r f =
+  pub component-fit : (z : ℤ) → z ≡ squared → (x : Float) → x ≡ ofInt binary64 (toZ w64 (ofZ w64 z)) → (taps : List ℤ) → taps ≡ tabulate (factors lag) tapped
+      → (r : List ℤ) → r ≡ exactFit (entry (noiseOf plane) (plane .width) (plane .height) lag) (at taps) (div binary64 x sixteen) lag (factors lag) → r ≡ chromaFit luma plane lag
+  component-fit z e x d taps t r f =
       solved luma plane lag (viewed-length (g .chroma) source) wide high (seen-samples S) (luma-limited O L) (tap-over O y y-denoised source denoised lag)
       (entry (noiseOf plane) (plane .width) (plane .height) lag) (λ i j a b. refl) (at taps) (line-entry (factors lag) tapped t)
-      (λ i k. le-trans (tap-bound O L S held i k) (lit≤ tt)) _ (in-sixteenths z e x _ d n) r f
+      (λ i k. le-trans (tap-bound O L S held i k) (lit≤ tt)) (div binary64 x sixteen) (in-sixteenths z e x d) r f
 
 -- sums with the tap have a place for each factor
 pub taps-size : (n : ℕ) (f : ℕ → ℤ) (taps : List ℤ) → taps ≡ tabulate n f → length taps ≡ n

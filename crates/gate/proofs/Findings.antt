@@ -46,13 +46,13 @@ module _ (sigma16 : ℕ) (p q : Pair) (n : ℕ) (is : n ≡ sigma16) where
       unfolding lumaRow
       row = size ∙ (λ i. magnitudeOf (div binary64 ((lagged ∙ lag-window p 1) i) (first i)))
 
-      pub luma-row : {x : Float} → x ≡ threeQuarters → le x m ≡ true → RowCorrelated ≡ lumaFinding sigma16 p q
+      pub luma-row : le threeQuarters m ≡ true → RowCorrelated ≡ lumaFinding sigma16 p q
       unfolding lumaFinding
-      luma-row e t = rw (← is, le-ltb n 16 high, ← first, some, ← row, ← e, t)
+      luma-row t = rw (← is, le-ltb n 16 high, ← first, some, ← row, t)
 
-      pub luma-last : {x : Float} → x ≡ threeQuarters → le x m ≡ false → (f : Finding) → f ≡ secondFinding p q → f ≡ lumaFinding sigma16 p q
+      pub luma-last : le threeQuarters m ≡ false → (f : Finding) → f ≡ secondFinding p q → f ≡ lumaFinding sigma16 p q
       unfolding lumaFinding
-      luma-last d apart f e = rw (← is, le-ltb n 16 high, ← first, some, ← row, ← d, apart) e
+      luma-last apart f e = rw (← is, le-ltb n 16 high, ← first, some, ← row, apart) e
 
 -- the chroma gate
 module _ (sigma16 : ℕ) (p q : Pair) where
@@ -66,15 +66,15 @@ module _ (sigma16 : ℕ) (p q : Pair) where
     chroma-empty z = rw (le-ltb sigma16 8 high, eq-eqb (p .width * p .height) 0 z)
 
     module _ (filled : p .width * p .height ≡ 0 → ⊥) (m : Float) (row : m ≡ magnitudeOf (rowCorrelation p 1)) where
-      pub chroma-row : {x : Float} → x ≡ threeQuarters → le x m ≡ true → RowCorrelated ≡ chromaFinding sigma16 p q
+      pub chroma-row : le threeQuarters m ≡ true → RowCorrelated ≡ chromaFinding sigma16 p q
       unfolding chromaFinding
-      chroma-row e t = rw (le-ltb sigma16 8 high, ne-eqb (p .width * p .height) 0 filled, ← row, ← e, t)
+      chroma-row t = rw (le-ltb sigma16 8 high, ne-eqb (p .width * p .height) 0 filled, ← row, t)
 
-      module _ {x : Float} (limit : x ≡ threeQuarters) (apart : le x m ≡ false) (e₀ : Float) (first : e₀ ≡ dotF p p) where
+      module _ (apart : le threeQuarters m ≡ false) (e₀ : Float) (first : e₀ ≡ dotF p p) where
         pub chroma-first : le e₀ plusZero ≡ true → NoEnergyFirst ≡ chromaFinding sigma16 p q
         unfolding chromaFinding
-        chroma-first t = rw (le-ltb sigma16 8 high, ne-eqb (p .width * p .height) 0 filled, ← row, ← limit, apart, ← first, t)
+        chroma-first t = rw (le-ltb sigma16 8 high, ne-eqb (p .width * p .height) 0 filled, ← row, apart, ← first, t)
 
         pub chroma-last : (f : Finding) → le e₀ plusZero ≡ false → f ≡ secondFinding p q → f ≡ chromaFinding sigma16 p q
         unfolding chromaFinding
-        chroma-last f t e = rw (le-ltb sigma16 8 high, ne-eqb (p .width * p .height) 0 filled, ← row, ← limit, apart, ← first, t) e
+        chroma-last f t e = rw (le-ltb sigma16 8 high, ne-eqb (p .width * p .height) 0 filled, ← row, apart, ← first, t) e

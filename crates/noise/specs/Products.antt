@@ -31,7 +31,6 @@ Exists (noiseFrom plane dr dc) (r, c) = Inside (plane .height) (pos r +ℤ dr) �
 Exists (average luma) (r, c) = (r < sampled (luma .sampling .down) (luma .plane .height)) × (c < sampled (luma .sampling .across) (luma .plane .width))
 
 -- ---- the product in f64, each factor worked as the Rust does
--- the place that a noise is of, right where it exists: neither number is negative there, and natAbs folds none
 abbrev pub reached : Pair → ℤ → ℤ → Place → ℕ
 reached plane dr dc (r, c) = place (plane .width) (natAbs (pos r +ℤ dr)) (natAbs (pos c +ℤ dc))
 

@@ -11,17 +11,16 @@ use Rattle.solve.specs.Elimination.{Matrix, Row, going, none, cell, limi
 pub picked : (p q u v : Float) (t : Bool) (x y z : ℕ) → p ≡ u → q ≡ v → lt p q ≡ t → z ≡ cond t x y → z ≡ cond (lt u v) x y
 picked p q u v t x y z e d h k = k ∙ rw (← h, e, d)
 
--- k is the pivot's row, m and d the matrix and the right side with that row at i, x the pivot's magnitude, and y the limit
-pub column-is : (p i : ℕ) (a : Matrix) (b : Row) (k : ℕ) (m : Matrix) (d : Row) (x : Float) {y : Float} (t : Bool)
+-- k is the pivot's row, m and d the matrix and the right side with that row at i, and x the pivot's magnitude
+pub column-is : (p i : ℕ) (a : Matrix) (b : Row) (k : ℕ) (m : Matrix) (d : Row) (x : Float) (t : Bool)
     → k ≡ pivotOf p a i
     → m ≡ swapped [] a i k
     → d ≡ swapped nan b i k
     → x ≡ magnitudeOf (cell m i i)
-    → y ≡ limit
-    → lt x y ≡ t
+    → lt x limit ≡ t
     → cond t none (going (cleared p i (record { matrix = m; right = d }))) ≡ column p i (going (record { matrix = a; right = b }))
 unfolding column pivoted tested
-column-is p i a b k m d x t hk hm hd hx hy ht = rw (← ht, hy, hx, hm, hd, hk)
+column-is p i a b k m d x t hk hm hd hx ht = rw (← ht, hx, hm, hd, hk)
 
 pub none-stays : (p k : ℕ) → column p k none ≡ none
 unfolding column

@@ -13,7 +13,7 @@ use Rattle.chroma_correlation.proofs.tap.Tie as tie
 returns : tie.Need-returns
 returns c =
     let S = c .before .before in
-    flat _ _ _ ((λ i. div binary64 (c .before .nearest-i64-to-f64 .ensures i) (sixteen-bits i)) ∙ in-sixteenths (S .args .squares) (S .pre .1)) tiny-bits (c .if1 .taken)
+    flat _ _ _ ((λ i. div binary64 (c .before .nearest-i64-to-f64 .ensures i) (sixteen-bits i)) ∙ in-sixteenths (S .args .squares) (S .pre .1)) (rw (← tiny-bits) (c .if1 .taken))
 
 returns-2 : tie.Need-returns-2
 returns-2 c =
@@ -21,7 +21,7 @@ returns-2 c =
     let S = i .before .before in
     toZ-ofZ w32 (c .quant-ar .result) (record { sfits = c .quant-ar .ok })
     ∙ quotient _ _ _ ((λ j. div binary64 (i .before .nearest-i64-to-f64 .ensures j) (sixteen-bits j)) ∙ in-sixteenths (S .args .squares) (S .pre .1)) _ _
-    ((λ j. div binary64 (c .before .nearest-i64-to-f642 .ensures j) (four-bits j)) ∙ in-quarters (S .args .products) (S .pre .0)) tiny-bits (i .if1 .left) (c .quant-ar .ensures)
+    ((λ j. div binary64 (c .before .nearest-i64-to-f642 .ensures j) (four-bits j)) ∙ in-quarters (S .args .products) (S .pre .0)) (rw (← tiny-bits) (i .if1 .left)) (c .quant-ar .ensures)
 
 pub tap-spec : {M : Type 1} → statement M
 tap-spec =

@@ -6,6 +6,7 @@ use mir.Syntax.{w64}
 use mir.ValLaws.{toZ-ofZ}
 use borrow.Author.Needs.{needs}
 use denote.Ref.{now}
+use Rattle.laws.specs.Constants.{four}
 use Rattle.laws.proofs.Constants.{four-bits}
 use Rattle.noise.specs.Lines.{at}
 use Rattle.normal.specs.Layout.{sumAt}
@@ -23,9 +24,10 @@ returns c =
 returns-2 : tie.Need-returns-2
 returns-2 c =
     let a = c .before .before .before .before .args in
-    right-quarters _ _ _ _ _ (omega arith) four-bits
-    (ap (λ (x : Float). div binary64 x _)
-    (c .nearest-i64-to-f642 .ensures ∙ ap (ofInt binary64) (toZ-ofZ w64 _ (record { sfits = c .before .quarters .given }) ∙ ap (at (now (a .taps))) (c .before .before .before .neighbour-count .ensures))))
+    right-quarters _ _ _ _ _ (omega arith)
+    (rw four-bits
+    (ap (λ (x : Float). div binary64 x four)
+    (c .nearest-i64-to-f642 .ensures ∙ ap (ofInt binary64) (toZ-ofZ w64 _ (record { sfits = c .before .quarters .given }) ∙ ap (at (now (a .taps))) (c .before .before .before .neighbour-count .ensures)))))
 
 pub right-sum-spec : {M : Type 1} → statement M
 right-sum-spec =

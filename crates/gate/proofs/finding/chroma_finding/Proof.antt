@@ -39,19 +39,19 @@ returns-3 : tie.Need-returns-3
 returns-3 c =
     let E = c .before .before .before .before in
     let s = c .before .before .before .of-plane .ensures in
-    chroma-row _ _ _ (E .before .before .if1 .left) (filled E) _ (row _ _ _ (c .before .magnitude .ensures) (row-is _ 1 (s .energy) (s .lagged) (c .before .before .correlation-of .ensures))) three-quarters-bits (c .if3 .taken)
+    chroma-row _ _ _ (E .before .before .if1 .left) (filled E) _ (row _ _ _ (c .before .magnitude .ensures) (row-is _ 1 (s .energy) (s .lagged) (c .before .before .correlation-of .ensures))) (rw (← three-quarters-bits) (c .if3 .taken))
 
 returns-4 : tie.Need-returns-4
 returns-4 c =
     let E = c .before .before .before .before .before in
     let s = c .before .before .before .before .of-plane .ensures in
-    chroma-first _ _ _ (E .before .before .if1 .left) (filled E) _ (row _ _ _ (c .before .before .magnitude .ensures) (row-is _ 1 (s .energy) (s .lagged) (c .before .before .before .correlation-of .ensures))) three-quarters-bits (c .before .if3 .left) _ (s .energy) (c .if4 .taken)
+    chroma-first _ _ _ (E .before .before .if1 .left) (filled E) _ (row _ _ _ (c .before .before .magnitude .ensures) (row-is _ 1 (s .energy) (s .lagged) (c .before .before .before .correlation-of .ensures))) (rw (← three-quarters-bits) (c .before .if3 .left)) _ (s .energy) (c .if4 .taken)
 
 returns-5 : tie.Need-returns-5
 returns-5 c =
     let E = c .before .before .before .before .before .before in
     let s = c .before .before .before .before .before .of-plane .ensures in
-    chroma-last _ _ _ (E .before .before .if1 .left) (filled E) _ (row _ _ _ (c .before .before .before .magnitude .ensures) (row-is _ 1 (s .energy) (s .lagged) (c .before .before .before .before .correlation-of .ensures))) three-quarters-bits (c .before .before .if3 .left) _ (s .energy) _ (c .before .if4 .left) (c .second-finding .ensures)
+    chroma-last _ _ _ (E .before .before .if1 .left) (filled E) _ (row _ _ _ (c .before .before .before .magnitude .ensures) (row-is _ 1 (s .energy) (s .lagged) (c .before .before .before .before .correlation-of .ensures))) (rw (← three-quarters-bits) (c .before .before .if3 .left)) _ (s .energy) _ (c .before .if4 .left) (c .second-finding .ensures)
 
 pub chroma-finding-spec : {M : Type 1} → statement M
 chroma-finding-spec =

@@ -26,12 +26,12 @@ returns-2 c = luma-first _ _ _ _ (sigma (c .before .before)) (c .before .if1 .le
 returns-3 : tie.Need-returns-3
 returns-3 c =
     let s = c .before .before .before .before .before .before .of-plane .ensures in
-    luma-row _ _ _ _ (sigma (c .before .before .before .before)) (c .before .before .before .if1 .left) _ (s .energy) (c .before .before .if2 .left) _ _ (s .lagged) (c .before .magnitude .ensures) three-quarters-bits (c .if3 .taken)
+    luma-row _ _ _ _ (sigma (c .before .before .before .before)) (c .before .before .before .if1 .left) _ (s .energy) (c .before .before .if2 .left) _ _ (s .lagged) (c .before .magnitude .ensures) (rw (← three-quarters-bits) (c .if3 .taken))
 
 returns-4 : tie.Need-returns-4
 returns-4 c =
     let s = c .before .before .before .before .before .before .before .of-plane .ensures in
-    luma-last _ _ _ _ (sigma (c .before .before .before .before .before)) (c .before .before .before .before .if1 .left) _ (s .energy) (c .before .before .before .if2 .left) _ _ (s .lagged) (c .before .before .magnitude .ensures) three-quarters-bits (c .before .if3 .left) _ (c .second-finding .ensures)
+    luma-last _ _ _ _ (sigma (c .before .before .before .before .before)) (c .before .before .before .before .if1 .left) _ (s .energy) (c .before .before .before .if2 .left) _ _ (s .lagged) (c .before .before .magnitude .ensures) (rw (← three-quarters-bits) (c .before .if3 .left)) _ (c .second-finding .ensures)
 
 pub luma-finding-spec : {M : Type 1} → statement M
 luma-finding-spec =
