@@ -4,6 +4,7 @@ pub mod Findings
 pub mod Answers
 pub mod Whole
 pub mod Yes
+pub mod Sigma
 pub mod PlusZero
 pub mod Energy
 pub mod AtMostOne

@@ -8,7 +8,6 @@ use lib.Ieee.{le}
 use borrow.Author.Tests.{le-ltb, ltb-false, ne-eqb, eqb-false}
 use Rattle.laws.specs.Constants.{threeQuarters}
 use Rattle.laws.specs.Scaled.{plusZero}
-use Rattle.frame.specs.View.{viewed}
 use Rattle.frame.specs.Planes.{viewOf}
 use Rattle.frame.specs.Questions.{accepted}
 use Rattle.frame.specs.Calls.{gateRefusal}
@@ -18,9 +17,8 @@ use Rattle.float.specs.Magnitude.{magnitudeOf}
 use Rattle.noise.specs.Noise.{Pair}
 use Rattle.noise.specs.Seen.{seen}
 use Rattle.noise.specs.Steps.{dotF}
-use Rattle.profile.specs.Steps.{planeSigma16}
 use Rattle.gate.specs.RowCorrelation.{rowCorrelation}
-use Rattle.gate.specs.Tests.{temporal, lumaRow, lumaFinding, lumaOf, chromaFinding, isPassed}
+use Rattle.gate.specs.Tests.{temporal, lumaRow, lumaFinding, lumaSigma16, lumaOf, chromaFinding, isPassed}
 use Rattle.gate.specs.Answers.{refusedGate, foundGate, lumaAnswer, chromaAnswer}
 use Rattle.gate.specs.Passes.{LumaPasses, ChromaPasses}
 use Rattle.gate.specs.declared.finding.Finding.{Finding}
@@ -70,7 +68,7 @@ yes-of (suc n) f e = absurd (false≢true e)
 
 module _ (s : Shape) (a b c d : List ℕ) where
   abbrev LumaTests : Type 0
-  LumaTests = let v = viewOf s Y in LumaPasses (planeSigma16 (s .depth - 8) (viewed v a) (viewed v b)) (seen v a b) (seen v c d)
+  LumaTests = let v = viewOf s Y in LumaPasses (lumaSigma16 (s .depth - 8) (seen v a b)) (seen v a b) (seen v c d)
 
   pub film-grain-probe-yes : lumaAnswer s a b c d .yes ≡ true → (gateRefusal s Y a b c d ≡ 0) × LumaTests
   unfolding lumaAnswer

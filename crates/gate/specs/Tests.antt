@@ -41,9 +41,12 @@ lumaFinding sigma16 p q =
     (cond (le threeQuarters (magnitudeOf (lumaRow p))) RowCorrelated
     (secondFinding p q)))
 
--- with the sigma16 of the first, its noise shifted
+-- `est.sigma16`, its noise shifted: of the whole profile that the Rust works, this is the figure of the plane
+abbrev pub lumaSigma16 : ℕ → Pair → ℕ
+lumaSigma16 shift p = planeSigma16 shift (p .source) (p .denoised)
+
 abbrev pub lumaOf : ℕ → Pair → Pair → Finding
-lumaOf shift p q = lumaFinding (planeSigma16 shift (p .source) (p .denoised)) p q
+lumaOf shift p q = lumaFinding (lumaSigma16 shift p) p q
 
 -- the chroma gate
 unfoldable pub chromaFinding : ℕ → Pair → Pair → Finding
