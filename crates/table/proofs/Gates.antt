@@ -1,6 +1,7 @@
 -- The worked examples, by computation. Assumes nothing.
 use mathlib.Core.Path.{refl}
 use lib.Ieee.{add, sub, mul, div, le, lt, ofInt, ofBits, toUnsigned}
+use Rattle.laws.specs.Sums.{total}
 use Rattle.table.specs.Cases.{Right}
 use Rattle.frame.specs.Size.{chromaWidth, chromaHeight}
 use Rattle.frame.specs.View.{viewed}
@@ -14,7 +15,7 @@ use Rattle.profile.specs.Steps.{planeSigma16, planeSquares}
 use Rattle.gate.specs.RowCorrelation.{energyF, rowCorrelation}
 use Rattle.gate.specs.Answers.{lumaAnswer, chromaAnswer}
 use Rattle.gate.specs.Tests.{timeTest, temporal, lumaRow, lumaFinding, chromaFinding}
-use Rattle.table.specs.Gates.{lumaFound, chromaFound, rowFound, cases, rowCases}
+use Rattle.table.specs.Gates.{lumaFound, chromaFound, rowFound, tests, nearFound, cases, rowCases, testCases, nearCases}
 
 pub row-cases-right : Right rowFound rowCases
 unfolding rowCorrelation energyF windowF lagF add sub mul div le ofInt ofBits
@@ -27,3 +28,11 @@ luma-cases-right = (refl, (refl, (refl, (refl, tt))))
 pub chroma-cases-right : Right chromaFound cases
 unfolding chromaAnswer viewed gateRefusal gateNumbers shapeNumbers chromaWidth chromaHeight each low allLow chromaFinding temporal timeTest rowCorrelation energyF lagF magnitudeOf root planeSigma16 planeSquares sigma16Of windowF dotF add sub mul div le lt ofInt ofBits toUnsigned
 chroma-cases-right = (refl, (refl, (refl, (refl, tt))))
+
+pub test-cases-right : Right tests testCases
+unfolding timeTest magnitudeOf root mul div lt ofInt ofBits
+test-cases-right = (refl, (refl, (refl, (refl, tt))))
+
+pub near-cases-right : Right nearFound nearCases
+unfolding lumaAnswer viewed gateRefusal gateNumbers shapeNumbers each low allLow lumaFinding temporal timeTest lumaRow magnitudeOf root planeSigma16 planeSquares sigma16Of windowF dotF add sub mul div le lt ofInt ofBits toUnsigned total
+near-cases-right = (refl, tt)
