@@ -9,6 +9,7 @@ pub mod Start
 pub mod Yes
 pub mod Sigma
 pub mod PlusZero
+pub mod OnePass
 pub mod Energy
 pub mod AtMostOne
 pub mod RowWithin
