@@ -15,7 +15,7 @@ use Rattle.laws.specs.Scaled.{plusZero, ofScaled}
 use Rattle.laws.proofs.Scaled.{scaled-zero, scaled-int}
 use Rattle.laws.proofs.Finite.{scaled-val, div-at}
 use Rattle.laws.proofs.Loop.{loop-none}
-use Rattle.laws.proofs.ZeroSign.{plus}
+use Rattle.laws.proofs.ZeroSign.{round-plus}
 use Rattle.laws.proofs.Accumulators.{loop-still}
 use Rattle.frame.specs.declared.view.View.{View}
 use Rattle.noise.specs.Noise.{Pair}
@@ -39,7 +39,7 @@ unfolding ofScaled
 zero-over n h l =
     ap (λ (x : Float). div binary64 x (ofScaled 0 (pos n))) (sym (scaled-zero 0))
     ∙ div-at binary64 _ _ false 0 1 false n 1 (lit< tt) (lit< tt) h (scaled-val binary64 false 0 0 (lit≤ tt) (lit≤ tt)) (scaled-val binary64 false n 0 l (lit≤ tt))
-    ∙ plus (1 * n) (le-trans h (le-of-eq (sym (one-mul n))))
+    ∙ round-plus (1 * n) (le-trans h (le-of-eq (sym (one-mul n))))
 
 -- ---- the two correlations
 module _ {v : View} {s d : List ℕ} (S : Seen v s d) (some : energy (seen v s d) ≡ pos 0 → ⊥) where

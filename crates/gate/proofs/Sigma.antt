@@ -28,7 +28,7 @@ module _ (s : Shape) (y y-denoised : List ℕ) where
 
   -- of an accepted gate's first frame
   module _ (z z-denoised : List ℕ) (e : gateRefusal s Y y y-denoised z z-denoised ≡ 0) where
-    pub luma-worded : PlaneInWords (s .depth - 8) y y-denoised sigma16
+    luma-worded : PlaneInWords (s .depth - 8) y y-denoised sigma16
     luma-worded =
         let c = gate-call s Y y y-denoised z z-denoised e in
         subst (λ (p : Pair). PlaneInWords (s .depth - 8) y y-denoised (lumaSigma16 (s .depth - 8) p)) (sym (first-whole s Y y y-denoised z z-denoised e))

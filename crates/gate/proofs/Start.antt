@@ -10,7 +10,7 @@ use lib.Ieee.Fits.{up-pos}
 use borrow.Author.Tests.{eqb-false}
 use Rattle.laws.specs.Constants.{threeQuarters, twoFifths}
 use Rattle.laws.specs.Scaled.{plusZero, minusZero}
-use Rattle.laws.proofs.ZeroSign.{ButZeroSign, minus, plus, loop-sign, at-most-same, above-same}
+use Rattle.laws.proofs.ZeroSign.{ButZeroSign, round-minus, round-plus, loop-sign, at-most-same, above-same}
 use Rattle.float.specs.Magnitude.{magnitudeOf}
 use Rattle.float.specs.Root.{root}
 use Rattle.noise.specs.Noise.{Pair}
@@ -27,8 +27,8 @@ dot-sign p q = loop-sign _ (p .width * p .height)
 -- either zero over a number
 none : (s : Bool) (c : ℕ) → 0 < c → magnitudeOf (round binary64 s 0 c) ≡ plusZero
 unfolding magnitudeOf ofBits
-none true c h = ap magnitudeOf (minus c h)
-none false c h = ap magnitudeOf (plus c h)
+none true c h = ap magnitudeOf (round-minus c h)
+none false c h = ap magnitudeOf (round-plus c h)
 
 some : (n : ℕ) → (n ≡ 0 → ⊥) → 0 < n
 some zero h = absurd (h refl)

@@ -21,13 +21,13 @@ ButZeroSign x y = (x ≡ y) ⊎ ((x ≡ minusZero) × (y ≡ plusZero))
 none : (s : Bool) (c : ℕ) → 0 < c → round binary64 s 0 c ≡ round binary64 s 0 1
 none s c h = round-same binary64 s 0 c 0 1 h (zero-lt-suc 0) (zero-mul 1 ∙ sym (zero-mul c))
 
-pub minus : (c : ℕ) → 0 < c → round binary64 true 0 c ≡ minusZero
+pub round-minus : (c : ℕ) → 0 < c → round binary64 true 0 c ≡ minusZero
 unfolding round ofBits
-minus c h = none true c h
+round-minus c h = none true c h
 
-pub plus : (c : ℕ) → 0 < c → round binary64 false 0 c ≡ plusZero
+pub round-plus : (c : ℕ) → 0 < c → round binary64 false 0 c ≡ plusZero
 unfolding round ofBits
-plus c h = none false c h
+round-plus c h = none false c h
 
 -- a summand of sign t and size b / c
 sums : (t : Bool) (b c : ℕ) → 0 < c → ButZeroSign (sum binary64 true 0 t b c) (sum binary64 false 0 t b c)
@@ -36,7 +36,7 @@ sums false zero c h = inl refl
 sums false (suc b) c h =
     let n : suc b - 0 ≡ 0 + suc b = omega arith in
     inl (rw (lt-ltb 0 (suc b) (zero-lt-suc b)) (ap (λ (n : ℕ). round binary64 false n c) n))
-sums true zero c h = inr (minus c h, plus c h)
+sums true zero c h = inr (round-minus c h, round-plus c h)
 sums true (suc b) c h =
     let n : 0 + suc b ≡ suc b - 0 = omega arith in
     inl (rw (lt-ltb 0 (suc b) (zero-lt-suc b)) (ap (λ (n : ℕ). round binary64 true n c) n))
