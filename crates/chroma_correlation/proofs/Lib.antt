@@ -3,3 +3,4 @@ pub mod Taps
 pub mod Answers
 pub mod OnlyCr
 pub mod Demand
+pub mod OnePass

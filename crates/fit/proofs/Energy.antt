@@ -13,7 +13,7 @@ use lib.Ieee.Fits.{down-pos}
 use borrow.Author.Tests.{ne-eqb, le-ltb}
 use Rattle.laws.specs.Limits.{planeLimit, sampleLimit}
 use Rattle.laws.specs.Scaled.{plusZero, signed}
-use Rattle.laws.proofs.Scaled.{holds-int}
+use Rattle.laws.proofs.AtMostZero.{at-most-zero, zero-at-most}
 use Rattle.laws.proofs.Sums.{sum-nonneg}
 use Rattle.laws.proofs.Whole.{square-nonneg}
 use Rattle.noise.specs.Noise.{Pair, noiseOf}
@@ -26,34 +26,6 @@ use Rattle.fit.specs.Steps.{energyF}
 use Rattle.fit.specs.Words.{energy}
 use Rattle.fit.proofs.FloatEntries.{energy-sum}
 
--- ---- a whole number and plus zero
-above : (a b : ℕ) → 0 < a → b ≡ 0 → (ltb a b || (eqb a b && (true || eqb a 0))) ≡ false
-above a b h e = rw (e, le-ltb a 0 zero-le, ne-eqb a 0 (λ z. omega arith))
-
-number-above : (x : Float) (m : ℕ) → 0 < m → HasValue x false m 1 → le x plusZero ≡ false
-unfolding le lt eq ofBits
-number-above nan m h v = absurd v
-number-above (inf t) m h v = absurd v
-number-above (fin t k e) m h v =
-    let p : 0 < m * down e = mul-pos h (down-pos e) in
-    let q : 0 < k * up e * 1 = omega (arith, v .1) in
-    rw (v .0) (above (k * up e * 1) _ q (zero-mul (down e)))
-
-number-over : (x : Float) (m : ℕ) (s : Bool) (k : ℕ) → signed s k ≡ pos (suc m) → HasValue x s k 1 → le x plusZero ≡ false
-number-over x m false k e v = let d : k ≡ suc m = ap natAbs e in number-above x k (omega arith) v
-number-over x m true zero e v = let d : 0 ≡ suc m = ap natAbs e in absurd (omega arith)
-number-over x m true (suc k) e v = absurd (pos-ne-negsuc (suc m) k (sym e))
-
-at-most-zero : (z : ℤ) → pos 0 ≤ℤ z → natAbs z ≤ 2 ^ 53 → le (ofInt binary64 z) plusZero ≡ true → z ≡ pos 0
-at-most-zero (pos zero) n b t = refl
-at-most-zero (pos (suc m)) n b t = let H = holds-int (pos (suc m)) b in absurd (true≢false (sym t ∙ number-over _ m (H .sign) (H .size) (H .whole) (H .value)))
-at-most-zero (negsuc m) n b t = absurd (n .le)
-
-zero-is : le (ofInt binary64 (pos 0)) plusZero ≡ true
-unfolding le lt eq ofInt ofBits
-zero-is = refl
-
--- ---- the energy
 module _ (plane : Pair) (lag : ℕ) where
   energy-is : entry (noiseOf plane) (plane .width) (plane .height) lag (neighbours lag) (neighbours lag) ≡ energy plane lag
   energy-is = window-ext (plane .width) (plane .height) lag _ _ _ _ last last
@@ -70,7 +42,7 @@ module _ (plane : Pair) (lag : ℕ) where
     in-float = energy-sum plane lag S ∙ ap (ofInt binary64) energy-is
 
     pub still-flat : energy plane lag ≡ pos 0 → le (energyF plane lag) plusZero ≡ true
-    still-flat e = ap (λ (x : Float). le x plusZero) (in-float ∙ ap (ofInt binary64) e) ∙ zero-is
+    still-flat e = ap (λ (x : Float). le x plusZero) (in-float ∙ ap (ofInt binary64) e) ∙ zero-at-most
 
     pub flat-still : natAbs (entry (noiseOf plane) (plane .width) (plane .height) lag (neighbours lag) (neighbours lag)) ≤ 2 ^ 53 → le (energyF plane lag) plusZero ≡ true → energy plane lag ≡ pos 0
     flat-still b t = at-most-zero (energy plane lag) not-negative (rw (← energy-is) b) (sym (ap (λ (x : Float). le x plusZero) in-float) ∙ t)

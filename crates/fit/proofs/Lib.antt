@@ -17,4 +17,5 @@ pub mod Range
 pub mod Unused
 pub mod Filter
 pub mod RustMatrix
+pub mod OnePass
 pub mod Demand

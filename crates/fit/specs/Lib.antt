@@ -1,5 +1,6 @@
 -- what the results are, and what they rest on
 pub mod Steps
+pub mod OnePass
 pub mod Answer
 pub mod Words
 pub mod Demand

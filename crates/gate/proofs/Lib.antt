@@ -3,8 +3,13 @@ pub mod Rows
 pub mod Findings
 pub mod Answers
 pub mod Whole
+pub mod EnergyZero
+pub mod LumaRow
+pub mod Start
 pub mod Yes
+pub mod Sigma
 pub mod PlusZero
+pub mod OnePass
 pub mod Energy
 pub mod AtMostOne
 pub mod RowWithin

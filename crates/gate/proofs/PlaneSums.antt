@@ -27,12 +27,11 @@ use Rattle.noise.specs.Steps.{dotF, lagF}
 use Rattle.noise.proofs.Products.{plane-samples}
 use Rattle.noise.proofs.Seen.{seen-plane}
 use Rattle.noise.proofs.Products.{frame-held}
-use Rattle.noise.proofs.Steps.{dot-window, dot-sum, lag-sum}
+use Rattle.noise.proofs.Steps.{dot-sum, lag-sum}
 use Rattle.profile.specs.Shifted.{shiftedNoise, square}
 use Rattle.profile.specs.Steps.{planeSquares}
 use Rattle.profile.proofs.Squares.{square-pos}
 use Rattle.profile.proofs.StepSums.{plane-sum}
-use Rattle.gate.specs.RowCorrelation.{energyF}
 
 -- ---- of a plane and its copy, as a view shows them
 module _ {v : View} {s d : List ℕ} (S : Seen v s d) where
@@ -54,10 +53,3 @@ module _ {v : View} {s d : List ℕ} (S : Seen v s d) where
   lagged-is lag {z} eq =
       let p = seen v s d in
       sym (scaled-int z) ∙ ap (ofScaled 0) eq ∙ sym (lag-sum p lag planeLimit sampleLimit (frame-held (own p) (onward p lag)) limited)
-
-  -- the energy of `lag_h_rho`, row by row
-  pub energy-is : energyF (seen v s d) ≡ ofScaled 0 (laggedSum (seen v s d) (seen v s d) 0)
-  unfolding energyF
-  energy-is =
-      let p = seen v s d in
-      sym (dot-window p p refl refl) ∙ dot-sum p p refl refl planeLimit sampleLimit (frame-held (own p) (own p)) limited limited

@@ -1,19 +1,18 @@
 -- "Plus zero if lag is 0, width is at most lag, height is 0 or the energy is 0": each is one of the definition's tests; an energy of 0 is plus zero by demand 3. Assumes nothing.
-use mathlib.Core.Path.{_≡_, refl, _∙_, ap}
+use mathlib.Core.Path.{_≡_, refl, sym, _∙_, ap}
 use mathlib.Core.Bool.{Bool, true, false, cond, _||_}
 use mathlib.Core.List.{List}
 use Prim.Native.Nat.{ℕ, _≤_}
 use lib.Dec.{eqb, leb}
 use lib.IntN.{pos}
-use lib.Ieee.{Float, le, ofBits}
+use lib.Ieee.{Float, binary64, le, ofInt, ofBits}
 use borrow.Author.Tests.{le-leb, eq-eqb}
-use Rattle.laws.specs.Scaled.{plusZero, ofScaled}
-use Rattle.laws.proofs.Scaled.{scaled-zero}
+use Rattle.laws.specs.Scaled.{plusZero}
 use Rattle.frame.specs.declared.view.View.{View}
 use Rattle.noise.specs.Noise.{Pair}
-use Rattle.noise.specs.Seen.{seen, Seen, laggedSum}
-use Rattle.gate.specs.RowCorrelation.{energyF, rowCorrelation}
-use Rattle.gate.proofs.PlaneSums.{energy-is}
+use Rattle.noise.specs.Seen.{seen, Seen}
+use Rattle.gate.specs.RowCorrelation.{energyF, energy, rowCorrelation}
+use Rattle.gate.proofs.EnergyZero.{energy-dot, energy-float}
 
 any : (b : Bool) → (b || true) ≡ true
 any true = refl
@@ -41,5 +40,6 @@ module _ (p : Pair) (lag : ℕ) where
   still e = rw e (either (eqb lag 0 || (leb (p .width) lag || eqb (p .height) 0)) plusZero)
 
 -- the exact energy of what a view shows is 0
-pub energy-zero : {v : View} {s d : List ℕ} (lag : ℕ) → Seen v s d → laggedSum (seen v s d) (seen v s d) 0 ≡ pos 0 → rowCorrelation (seen v s d) lag ≡ plusZero
-energy-zero {v} {s} {d} lag S z = still (seen v s d) lag (energy-is S ∙ ap (ofScaled 0) z ∙ scaled-zero 0)
+pub energy-zero : {v : View} {s d : List ℕ} (lag : ℕ) → Seen v s d → energy (seen v s d) ≡ pos 0 → rowCorrelation (seen v s d) lag ≡ plusZero
+unfolding ofInt ofBits
+energy-zero {v} {s} {d} lag S z = still (seen v s d) lag (energy-dot (seen v s d) ∙ sym (energy-float S) ∙ ap (ofInt binary64) z)

@@ -1,5 +1,5 @@
 -- The row correlation, from the tests that its code makes: one law for each way through. Assumes nothing.
-use mathlib.Core.Path.{_≡_, refl, _∙_}
+use mathlib.Core.Path.{_≡_, sym, _∙_}
 use mathlib.Core.Bool.{true, false}
 use Prim.Native.Nat.{ℕ, _<_, _≤_}
 use lib.Ieee.{Float, binary64, div, le}
@@ -7,8 +7,8 @@ use borrow.Author.Tests.{le-leb, lt-leb, eq-eqb, ne-eqb}
 use Rattle.laws.specs.Scaled.{plusZero}
 use Rattle.noise.specs.Noise.{Pair}
 use Rattle.noise.specs.Steps.{dotF, lagF}
-use Rattle.noise.proofs.Steps.{dot-window}
 use Rattle.gate.specs.RowCorrelation.{energyF, correlationOf, rowCorrelation}
+use Rattle.gate.proofs.EnergyZero.{energy-dot}
 
 -- ---- from the sums
 module _ (w h lag : ℕ) (e s : Float) where
@@ -32,18 +32,6 @@ module _ (w h lag : ℕ) (e s : Float) where
 
 -- ---- of a plane
 module _ (p : Pair) (lag : ℕ) where
-  pub unlagged : lag ≡ 0 → plusZero ≡ rowCorrelation p lag
-  unfolding rowCorrelation
-  unlagged z = no-lag (p .width) (p .height) lag (energyF p) (lagF p lag) z
-
-  pub narrow : (lag ≡ 0 → ⊥) → p .width ≤ lag → plusZero ≡ rowCorrelation p lag
-  unfolding rowCorrelation
-  narrow some n = too-narrow (p .width) (p .height) lag (energyF p) (lagF p lag) some n
-
-  energy : {e : Float} → e ≡ dotF p p → e ≡ energyF p
-  unfolding energyF
-  energy is = is ∙ dot-window p p refl refl
-
   pub row-is : {e s r : Float} → e ≡ dotF p p → s ≡ lagF p lag → r ≡ correlationOf (p .width) (p .height) lag e s → r ≡ rowCorrelation p lag
   unfolding rowCorrelation
-  row-is x y z = z ∙ (λ i. correlationOf (p .width) (p .height) lag (energy x i) (y i))
+  row-is x y z = z ∙ (λ i. correlationOf (p .width) (p .height) lag ((x ∙ sym (energy-dot p)) i) (y i))

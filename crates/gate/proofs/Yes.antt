@@ -1,28 +1,30 @@
--- A gate says yes exactly if every test passes: test by test along the definition. Assumes nothing.
-use mathlib.Core.Path.{_≡_, refl, sym, _∙_}
+-- A gate says yes exactly if every test passes, in the scope's words: test by test along the definition. Assumes nothing.
+use mathlib.Core.Path.{_≡_, refl, sym, ap, _∙_}
 use mathlib.Core.Bool.{Bool, true, false, cond, false≢true}
 use mathlib.Core.List.{List}
 use Prim.Native.Nat.{ℕ, zero, suc, _-_, _*_}
 use lib.Dec.{ltb, eqb}
-use lib.Ieee.{le}
+use lib.Ieee.{Float, le}
 use borrow.Author.Tests.{le-ltb, ltb-false, ne-eqb, eqb-false}
 use Rattle.laws.specs.Constants.{threeQuarters}
 use Rattle.laws.specs.Scaled.{plusZero}
-use Rattle.frame.specs.View.{viewed}
 use Rattle.frame.specs.Planes.{viewOf}
 use Rattle.frame.specs.Questions.{accepted}
 use Rattle.frame.specs.Calls.{gateRefusal}
 use Rattle.frame.specs.declared.Shape.{Shape}
+use Rattle.frame.specs.declared.view.View.{View}
 use Rattle.frame.specs.declared.view.Component.the-variants.{Y, CbCr}
 use Rattle.float.specs.Magnitude.{magnitudeOf}
 use Rattle.noise.specs.Noise.{Pair}
-use Rattle.noise.specs.Seen.{seen}
+use Rattle.noise.specs.Seen.{seen, Seen}
 use Rattle.noise.specs.Steps.{dotF}
-use Rattle.profile.specs.Steps.{planeSigma16}
+use Rattle.noise.proofs.SeenCalls.{first-seen, second-seen}
 use Rattle.gate.specs.RowCorrelation.{rowCorrelation}
-use Rattle.gate.specs.Tests.{temporal, lumaRow, lumaFinding, lumaOf, chromaFinding, isPassed}
+use Rattle.gate.specs.Tests.{lumaRow, temporalBy, lumaBy, lumaFinding, lumaSigma16, lumaOf, chromaBy, chromaFinding, isPassed}
 use Rattle.gate.specs.Answers.{refusedGate, foundGate, lumaAnswer, chromaAnswer}
 use Rattle.gate.specs.Passes.{LumaPasses, ChromaPasses}
+use Rattle.gate.proofs.EnergyZero.{some-found, found-some}
+use Rattle.gate.proofs.LumaRow.{luma-row}
 use Rattle.gate.specs.declared.finding.Finding.{Finding}
 use Rattle.gate.specs.declared.finding.Finding.the-variants.{LowSigma, EmptyPlane, NoEnergyFirst, RowCorrelated, NoEnergySecond, TimeCorrelated, Passed}
 
@@ -35,33 +37,47 @@ last : (b : Bool) → isPassed (cond b Passed TimeCorrelated) ≡ true → b ≡
 last true e = refl
 last false e = absurd (false≢true e)
 
-module _ (sigma16 : ℕ) (p q : Pair) where
-  pub luma-yes : isPassed (lumaFinding sigma16 p q) ≡ true → LumaPasses sigma16 p q
-  unfolding lumaFinding temporal
+-- ---- the gates, of what a view shows
+module _ (sigma16 : ℕ) {v : View} {a b c d : List ℕ} (S : Seen v a b) (T : Seen v c d) where
+  abbrev p : Pair
+  p = seen v a b
+
+  abbrev q : Pair
+  q = seen v c d
+
+  luma-yes : isPassed (lumaFinding sigma16 p q) ≡ true → LumaPasses sigma16 p q
+  unfolding lumaBy temporalBy
   luma-yes e =
       let a = after (ltb sigma16 16) LowSigma _ refl e in
       let b = after (le (dotF p p) plusZero) NoEnergyFirst _ refl (a .1) in
-      let c = after (le threeQuarters (magnitudeOf (lumaRow p))) RowCorrelated _ refl (b .1) in
+      let c = after (le threeQuarters (magnitudeOf (lumaRow p (dotF p p)))) RowCorrelated _ refl (b .1) in
       let d = after (le (dotF q q) plusZero) NoEnergySecond _ refl (c .1) in
-      record { sigma = ltb-false sigma16 16 (a .0); first = b .0; row = c .0; second = d .0; time = last _ (d .1) }
+      let n = found-some S (b .0) in
+      record {
+        sigma = ltb-false sigma16 16 (a .0);
+        first = n;
+        row = ap (λ (x : Float). le threeQuarters (magnitudeOf x)) (sym (luma-row S n)) ∙ c .0;
+        second = found-some T (d .0);
+        time = last _ (d .1);
+      }
 
-  pub luma-passes : LumaPasses sigma16 p q → isPassed (lumaFinding sigma16 p q) ≡ true
-  unfolding lumaFinding temporal
-  luma-passes t = rw (le-ltb sigma16 16 (t .sigma), t .first, t .row, t .second, t .time)
+  luma-passes : LumaPasses sigma16 p q → isPassed (lumaFinding sigma16 p q) ≡ true
+  unfolding lumaBy temporalBy
+  luma-passes t = rw (le-ltb sigma16 16 (t .sigma), some-found S (t .first), luma-row S (t .first), t .row, some-found T (t .second), t .time)
 
-  pub chroma-yes : isPassed (chromaFinding sigma16 p q) ≡ true → ChromaPasses sigma16 p q
-  unfolding chromaFinding temporal
+  chroma-yes : isPassed (chromaFinding sigma16 p q) ≡ true → ChromaPasses sigma16 p q
+  unfolding chromaBy temporalBy
   chroma-yes e =
       let a = after (ltb sigma16 8) LowSigma _ refl e in
       let n = after (eqb (p .width * p .height) 0) EmptyPlane _ refl (a .1) in
       let c = after (le threeQuarters (magnitudeOf (rowCorrelation p 1))) RowCorrelated _ refl (n .1) in
       let b = after (le (dotF p p) plusZero) NoEnergyFirst _ refl (c .1) in
       let d = after (le (dotF q q) plusZero) NoEnergySecond _ refl (b .1) in
-      record { sigma = ltb-false sigma16 8 (a .0); filled = eqb-false (p .width * p .height) 0 (n .0); row = c .0; first = b .0; second = d .0; time = last _ (d .1) }
+      record { sigma = ltb-false sigma16 8 (a .0); filled = eqb-false (p .width * p .height) 0 (n .0); row = c .0; first = found-some S (b .0); second = found-some T (d .0); time = last _ (d .1) }
 
-  pub chroma-passes : ChromaPasses sigma16 p q → isPassed (chromaFinding sigma16 p q) ≡ true
-  unfolding chromaFinding temporal
-  chroma-passes t = rw (le-ltb sigma16 8 (t .sigma), ne-eqb (p .width * p .height) 0 (t .filled), t .row, t .first, t .second, t .time)
+  chroma-passes : ChromaPasses sigma16 p q → isPassed (chromaFinding sigma16 p q) ≡ true
+  unfolding chromaBy temporalBy
+  chroma-passes t = rw (le-ltb sigma16 8 (t .sigma), ne-eqb (p .width * p .height) 0 (t .filled), t .row, some-found S (t .first), some-found T (t .second), t .time)
 
 -- ---- the calls
 yes-of : (n : ℕ) (f : Finding) → accepted n (foundGate f) (refusedGate n) .yes ≡ true → (n ≡ 0) × (isPassed f ≡ true)
@@ -70,23 +86,23 @@ yes-of (suc n) f e = absurd (false≢true e)
 
 module _ (s : Shape) (a b c d : List ℕ) where
   abbrev LumaTests : Type 0
-  LumaTests = let v = viewOf s Y in LumaPasses (planeSigma16 (s .depth - 8) (viewed v a) (viewed v b)) (seen v a b) (seen v c d)
+  LumaTests = let v = viewOf s Y in LumaPasses (lumaSigma16 (s .depth - 8) (seen v a b)) (seen v a b) (seen v c d)
 
   pub film-grain-probe-yes : lumaAnswer s a b c d .yes ≡ true → (gateRefusal s Y a b c d ≡ 0) × LumaTests
   unfolding lumaAnswer
-  film-grain-probe-yes e = let p = yes-of (gateRefusal s Y a b c d) (let v = viewOf s Y in lumaOf (s .depth - 8) (seen v a b) (seen v c d)) e in (p .0, luma-yes _ _ _ (p .1))
+  film-grain-probe-yes e = let p = yes-of (gateRefusal s Y a b c d) (let v = viewOf s Y in lumaOf (s .depth - 8) (seen v a b) (seen v c d)) e in (p .0, luma-yes _ (first-seen s Y a b c d (p .0)) (second-seen s Y a b c d (p .0)) (p .1))
 
   pub film-grain-probe-passes : gateRefusal s Y a b c d ≡ 0 → LumaTests → lumaAnswer s a b c d .yes ≡ true
   unfolding lumaAnswer
-  film-grain-probe-passes e t = rw e (luma-passes _ _ _ t)
+  film-grain-probe-passes e t = rw e (luma-passes _ (first-seen s Y a b c d e) (second-seen s Y a b c d e) t)
 
   abbrev ChromaTests : ℕ → Type 0
   ChromaTests sigma16 = let v = viewOf s CbCr in ChromaPasses sigma16 (seen v a b) (seen v c d)
 
   pub chroma-noise-gate-yes : (sigma16 : ℕ) → chromaAnswer s a b c d sigma16 .yes ≡ true → (gateRefusal s CbCr a b c d ≡ 0) × ChromaTests sigma16
   unfolding chromaAnswer
-  chroma-noise-gate-yes sigma16 e = let p = yes-of (gateRefusal s CbCr a b c d) (let v = viewOf s CbCr in chromaFinding sigma16 (seen v a b) (seen v c d)) e in (p .0, chroma-yes _ _ _ (p .1))
+  chroma-noise-gate-yes sigma16 e = let p = yes-of (gateRefusal s CbCr a b c d) (let v = viewOf s CbCr in chromaFinding sigma16 (seen v a b) (seen v c d)) e in (p .0, chroma-yes _ (first-seen s CbCr a b c d (p .0)) (second-seen s CbCr a b c d (p .0)) (p .1))
 
   pub chroma-noise-gate-passes : (sigma16 : ℕ) → gateRefusal s CbCr a b c d ≡ 0 → ChromaTests sigma16 → chromaAnswer s a b c d sigma16 .yes ≡ true
   unfolding chromaAnswer
-  chroma-noise-gate-passes sigma16 e t = rw e (chroma-passes _ _ _ t)
+  chroma-noise-gate-passes sigma16 e t = rw e (chroma-passes _ (first-seen s CbCr a b c d e) (second-seen s CbCr a b c d e) t)

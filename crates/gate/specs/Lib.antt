@@ -1,5 +1,6 @@
 -- what the results are, and what they rest on
 pub mod RowCorrelation
+pub mod OnePass
 pub mod Tests
 pub mod Answers
 pub mod Passes

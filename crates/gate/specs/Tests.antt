@@ -21,38 +21,52 @@ use Rattle.gate.specs.declared.finding.Finding.the-variants.{LowSigma, E
 unfoldable pub timeTest : Float → Float → Float → Bool
 timeTest cross e₀ e₁ = lt (magnitudeOf (div binary64 cross (root (mul binary64 e₀ e₁)))) twoFifths
 
--- of two planes, `e0`, `e1` and `cross` by `dot`
-unfoldable pub temporal : Pair → Pair → Finding
-temporal p q = cond (timeTest (dotF p q) (dotF p p) (dotF q q)) Passed TimeCorrelated
+-- `lag / e0` of `film_grain_probe`: rows 0..h and columns 0..w - 1
+unfoldable pub lumaRow : Pair → Float → Float
+lumaRow p e₀ = div binary64 (windowF (own p) (onward p 1) 0 (p .height) 0 (p .width - 1)) e₀
+
+-- ---- the tests, by how `dot` sums
+-- of two planes, `e0`, `e1` and `cross`
+unfoldable pub temporalBy : (Pair → Pair → Float) → Pair → Pair → Finding
+temporalBy dot p q = cond (timeTest (dot p q) (dot p p) (dot q q)) Passed TimeCorrelated
 
 -- the second's energy 0, then the test
-abbrev pub secondFinding : Pair → Pair → Finding
-secondFinding p q = cond (le (dotF q q) plusZero) NoEnergySecond (temporal p q)
-
--- `lag / e0` of `film_grain_probe`: rows 0..h and columns 0..w - 1
-unfoldable pub lumaRow : Pair → Float
-lumaRow p = div binary64 (windowF (own p) (onward p 1) 0 (p .height) 0 (p .width - 1)) (dotF p p)
+abbrev pub secondBy : (Pair → Pair → Float) → Pair → Pair → Finding
+secondBy dot p q = cond (le (dot q q) plusZero) NoEnergySecond (temporalBy dot p q)
 
 -- the luma gate, from the sigma16 of the first frame's Y
-unfoldable pub lumaFinding : ℕ → Pair → Pair → Finding
-lumaFinding sigma16 p q =
+unfoldable pub lumaBy : (Pair → Pair → Float) → ℕ → Pair → Pair → Finding
+lumaBy dot sigma16 p q =
     cond (ltb sigma16 16) LowSigma
-    (cond (le (dotF p p) plusZero) NoEnergyFirst
-    (cond (le threeQuarters (magnitudeOf (lumaRow p))) RowCorrelated
-    (secondFinding p q)))
-
--- with the sigma16 of the first, its noise shifted
-abbrev pub lumaOf : ℕ → Pair → Pair → Finding
-lumaOf shift p q = lumaFinding (planeSigma16 shift (p .source) (p .denoised)) p q
+    (cond (le (dot p p) plusZero) NoEnergyFirst
+    (cond (le threeQuarters (magnitudeOf (lumaRow p (dot p p)))) RowCorrelated
+    (secondBy dot p q)))
 
 -- the chroma gate
-unfoldable pub chromaFinding : ℕ → Pair → Pair → Finding
-chromaFinding sigma16 p q =
+unfoldable pub chromaBy : (Pair → Pair → Float) → ℕ → Pair → Pair → Finding
+chromaBy dot sigma16 p q =
     cond (ltb sigma16 8) LowSigma
     (cond (eqb (p .width * p .height) 0) EmptyPlane
     (cond (le threeQuarters (magnitudeOf (rowCorrelation p 1))) RowCorrelated
-    (cond (le (dotF p p) plusZero) NoEnergyFirst
-    (secondFinding p q))))
+    (cond (le (dot p p) plusZero) NoEnergyFirst
+    (secondBy dot p q))))
+
+-- ---- what the gates find, with `dot` from plus zero
+abbrev pub secondFinding : Pair → Pair → Finding
+secondFinding p q = secondBy dotF p q
+
+abbrev pub lumaFinding : ℕ → Pair → Pair → Finding
+lumaFinding sigma16 p q = lumaBy dotF sigma16 p q
+
+abbrev pub chromaFinding : ℕ → Pair → Pair → Finding
+chromaFinding sigma16 p q = chromaBy dotF sigma16 p q
+
+-- `est.sigma16` of the first frame, its noise shifted: of the profile that `noise_estimate` works, the figure of the plane
+abbrev pub lumaSigma16 : ℕ → Pair → ℕ
+lumaSigma16 shift p = planeSigma16 shift (p .source) (p .denoised)
+
+abbrev pub lumaOf : ℕ → Pair → Pair → Finding
+lumaOf shift p q = lumaFinding (lumaSigma16 shift p) p q
 
 -- yes
 abbrev pub isPassed : Finding → Bool

@@ -17,7 +17,7 @@ use Rattle.laws.specs.Law.{Limit, Held, Product, Positions, ExactSums}
 use Rattle.laws.proofs.Whole.{abs-add}
 use Rattle.laws.proofs.Sums.{sum-append}
 use Rattle.laws.proofs.Scaled.{scaled-zero, holds-scaled, add-scaled}
-use Rattle.laws.proofs.Sets.{length-within, sum-same-set, in-append, nodup-append}
+use Rattle.laws.proofs.Sets.{sum-same-set, in-append, nodup-append}
 
 -- the exact sum is no larger than so many of the largest product
 sum-le : {A : Type 0} (size : ℕ) (g : A → ℤ) (ps : List A) → ((p : A) → In p ps → natAbs (g p) ≤ size) → natAbs (sumZ (map g ps)) ≤ length ps * size
@@ -45,28 +45,28 @@ module _ {A : Type 0} (k size : ℕ) (fine : k ≤ 1074) (f : A → Float) (g : 
       next : (a b c r n : ℕ) → n ≡ r + size → c ≤ a + b → b ≤ size → a + n ≤ 2 ^ 53 → c + r ≤ 2 ^ 53
       next a b c r n e p q h = omega arith
 
-module _ (L : Limit) (H : Held L) {A : Type 0} (all : List A) (f : A → Float) (g : A → ℤ) (P : Product L all f g) where
+module _ (L : Limit) (H : Held L) {A : Type 0} (Position : A → Type 0) (f : A → Float) (g : A → ℤ) (P : Product L Position f g) where
   -- so many positions of such a size
-  count-le : (ps : List A) → Positions all ps → length ps * L .size ≤ 2 ^ 53
-  count-le ps S = le-trans (mul-le-mul-right (L .size) (le-trans (length-within ps all (S .once) (S .inside)) (P .few))) (H .room)
+  count-le : (ps : List A) → Positions Position ps → length ps * L .size ≤ 2 ^ 53
+  count-le ps S = le-trans (mul-le-mul-right (L .size) (P .few ps S)) (H .room)
 
-  all-small : (ps : List A) → Positions all ps → natAbs (sumZ (map g ps)) ≤ 2 ^ 53
-  all-small ps S = le-trans (sum-le (L .size) g ps (λ p m. P .small p (S .inside p m))) (count-le ps S)
+  all-small : (ps : List A) → Positions Position ps → natAbs (sumZ (map g ps)) ≤ 2 ^ 53
+  all-small ps S = le-trans (sum-le (L .size) g ps (λ p m. P .small p (S .exist p m))) (count-le ps S)
 
-  value : (ps : List A) → Positions all ps → Holds (L .scale) (sumZ (map g ps)) (ofScaled (L .scale) (sumZ (map g ps)))
+  value : (ps : List A) → Positions Position ps → Holds (L .scale) (sumZ (map g ps)) (ofScaled (L .scale) (sumZ (map g ps)))
   value ps S = holds-scaled (L .scale) (sumZ (map g ps)) (all-small ps S) (H .fine)
 
-  exact : (ps : List A) → Positions all ps → sumF (map f ps) ≡ ofScaled (L .scale) (sumZ (map g ps))
+  exact : (ps : List A) → Positions Position ps → sumF (map f ps) ≡ ofScaled (L .scale) (sumZ (map g ps))
   unfolding sumF
   exact ps S =
       ap (visit (λ x s. add binary64 s x) (map f ps)) (sym (scaled-zero (L .scale)))
-      ∙ from-exact (L .scale) (L .size) (H .fine) f g (pos 0) ps (λ p m. P .small p (S .inside p m)) (λ p m. P .holds p (S .inside p m)) (le-trans (le-of-eq (zero-add (length ps * L .size))) (count-le ps S))
+      ∙ from-exact (L .scale) (L .size) (H .fine) f g (pos 0) ps (λ p m. P .small p (S .exist p m)) (λ p m. P .holds p (S .exist p m)) (le-trans (le-of-eq (zero-add (length ps * L .size))) (count-le ps S))
       ∙ ap (ofScaled (L .scale)) (+ℤ-idl (sumZ (map g ps)))
 
-  parts : (ps qs us : List A) → Positions all ps → Positions all qs → Apart ps qs → NoDup us → Same us (ps ++ qs)
+  parts : (ps qs us : List A) → Positions Position ps → Positions Position qs → Apart ps qs → NoDup us → Same us (ps ++ qs)
       → sumF (map f us) ≡ add binary64 (sumF (map f ps)) (sumF (map f qs))
   parts ps qs us S T d n e =
-      exact us (record { once = n; inside = λ p h. ⊎-elim (S .inside p) (T .inside p) (in-append p ps qs (e .0 p h)) })
+      exact us (record { once = n; exist = λ p h. ⊎-elim (S .exist p) (T .exist p) (in-append p ps qs (e .0 p h)) })
       ∙ ap (ofScaled (L .scale))
       (sum-same-set g us (ps ++ qs) n (nodup-append ps qs (S .once) (T .once) d) e
       ∙ ap sumZ (map-append g ps qs)
@@ -75,11 +75,11 @@ module _ (L : Limit) (H : Held L) {A : Type 0} (all : List A) (f : A → Float) 
       ∙ (λ i. add binary64 (sym (exact ps S) i) (sym (exact qs T) i))
 
 -- Demand 3
-pub law-of-sums : (L : Limit) → Held L → {A : Type 0} (all : List A) (f : A → Float) (g : A → ℤ) → Product L all f g → ExactSums L all f g
-law-of-sums L H all f g P = record {
-  exact = exact L H all f g P;
-  exact-value = λ ps S. subst (λ (x : Float). Holds (L .scale) (sumZ (map g ps)) x) (sym (exact L H all f g P ps S)) (value L H all f g P ps S);
-  exact-zero = λ ps S e. exact L H all f g P ps S ∙ ap (ofScaled (L .scale)) e ∙ scaled-zero (L .scale);
-  any-order = λ ps qs S T e. exact L H all f g P ps S ∙ ap (ofScaled (L .scale)) (sum-same-set g ps qs (S .once) (T .once) e) ∙ sym (exact L H all f g P qs T);
-  parts = parts L H all f g P;
+pub law-of-sums : (L : Limit) → Held L → {A : Type 0} (Position : A → Type 0) (f : A → Float) (g : A → ℤ) → Product L Position f g → ExactSums (L .scale) Position f g
+law-of-sums L H Position f g P = record {
+  exact = exact L H Position f g P;
+  exact-value = λ ps S. subst (λ (x : Float). Holds (L .scale) (sumZ (map g ps)) x) (sym (exact L H Position f g P ps S)) (value L H Position f g P ps S);
+  exact-zero = λ ps S e. exact L H Position f g P ps S ∙ ap (ofScaled (L .scale)) e ∙ scaled-zero (L .scale);
+  any-order = λ ps qs S T e. exact L H Position f g P ps S ∙ ap (ofScaled (L .scale)) (sum-same-set g ps qs (S .once) (T .once) e) ∙ sym (exact L H Position f g P qs T);
+  parts = parts L H Position f g P;
 }

@@ -10,6 +10,9 @@ pub mod SumsN
 pub mod Is
 pub mod Finite
 pub mod Scaled
+pub mod AtMostZero
+pub mod ZeroSign
+pub mod Accumulators
 pub mod Visit
 pub mod Sets
 pub mod Members

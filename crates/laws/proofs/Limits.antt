@@ -1,5 +1,4 @@
 -- Limits whose sums f64 holds exactly: of two factors multiplied, and the widest there is. Assumes nothing.
-use mathlib.Core.List.{List}
 use Prim.Native.Nat.{ℕ, _+_, _*_, _^_, _≤_}
 use native.Mathlib.Nat.{le-trans}
 use lib.Dec.{lit≤}
@@ -10,9 +9,9 @@ use Rattle.laws.proofs.Whole.{abs-mul-le}
 use Rattle.laws.proofs.Scaled.{mul-holds}
 
 -- two factors, in 2 ^ j-ths and 2 ^ k-ths, of at most c and d of them
-module _ (n j k c d : ℕ) (fine : j + k ≤ 1074) (room : c * d ≤ 2 ^ 53) {A : Type 0} (all : List A) (u v : A → Float) (x y : A → ℤ) where
-  pub multiplied : Product (record { scale = j; count = n; size = c }) all u x → Product (record { scale = k; count = n; size = d }) all v y
-      → Product (record { scale = j + k; count = n; size = c * d }) all (λ p. mul binary64 (u p) (v p)) (λ p. x p *ℤ y p)
+module _ (n j k c d : ℕ) (fine : j + k ≤ 1074) (room : c * d ≤ 2 ^ 53) {A : Type 0} (Position : A → Type 0) (u v : A → Float) (x y : A → ℤ) where
+  pub multiplied : Product (record { scale = j; count = n; size = c }) Position u x → Product (record { scale = k; count = n; size = d }) Position v y
+      → Product (record { scale = j + k; count = n; size = c * d }) Position (λ p. mul binary64 (u p) (v p)) (λ p. x p *ℤ y p)
   multiplied P Q = record {
     few = P .few;
     small = λ p h. abs-mul-le (x p) (y p) c d (P .small p h) (Q .small p h);

@@ -1,9 +1,11 @@
 -- Sums of whole numbers: those of any total, a common factor, size and sign, rows, and the same as the sum of a list. Each by induction on the number of terms. Assumes nothing.
 use mathlib.Core.Path.{_≡_, refl, sym, ap, _∙_}
 use mathlib.Core.List.{List, [], _∷_, _++_, map}
+use mathlib.Core.Logic.{⊎-elim}
 use Prim.Native.Nat.{ℕ, zero, suc, _+_, _-_, _*_, _≤_, _<_, zero-le}
-use native.Mathlib.Nat.{le-step, le-trans, le-of-eq, lt-suc-self, zero-add, add-comm, sub-zero, add-le-add, suc-mul}
-use lib.IntN.{ℤ, pos, negℤ, natAbs, _+ℤ_, _-ℤ_, _*ℤ_, +ℤ-idl, +ℤ-idr, +ℤ-assoc, +ℤ-comm, +ℤ-negℤ-cancel, *ℤ-zero, zero-*ℤ}
+use native.Mathlib.Nat.{not-suc-le-zero, le-of-suc-le-suc, eq-or-lt-of-le, le-step, le-trans, le-of-eq, lt-suc-self, zero-add, add-comm, sub-zero, add-le-add, suc-mul}
+use native.Mathlib.Omega.{arith}
+use lib.IntN.{ℤ, pos, negsuc, negℤ, natAbs, _+ℤ_, _-ℤ_, _*ℤ_, +ℤ-idl, +ℤ-idr, +ℤ-assoc, +ℤ-comm, +ℤ-negℤ-cancel, *ℤ-zero, zero-*ℤ}
 use lib.Signed.{_≤ℤ_, ≤ℤ-refl}
 use Rattle.laws.specs.Sums.{total, sumTo, span, sumZ}
 use Rattle.laws.specs.Table.{tabulate, range}
@@ -72,6 +74,28 @@ pub sum-nonneg : (g : ℕ → ℤ) (n : ℕ) → ((i : ℕ) → i < n → pos 0 
 unfolding total
 sum-nonneg g zero h = ≤ℤ-refl (pos 0)
 sum-nonneg g (suc n) h = add-nonneg (sumTo g n) (g n) (sum-nonneg g n (λ i l. h i (le-step l))) (h n (lt-suc-self n))
+
+both-zero : (a b : ℤ) → pos 0 ≤ℤ a → pos 0 ≤ℤ b → a +ℤ b ≡ pos 0 → (a ≡ pos 0) × (b ≡ pos 0)
+both-zero (pos a) (pos b) h k e =
+    let d : a + b ≡ 0 = ap natAbs e in
+    let x : a ≡ 0 = omega arith in
+    let y : b ≡ 0 = omega arith in
+    (ap pos x, ap pos y)
+both-zero (pos a) (negsuc b) h k e = absurd (k .le)
+both-zero (negsuc a) b h k e = absurd (h .le)
+
+-- they add up to 0 where each is 0, and only there
+pub sum-zero : (g : ℕ → ℤ) (n : ℕ) → ((i : ℕ) → i < n → g i ≡ pos 0) → sumTo g n ≡ pos 0
+unfolding total
+sum-zero g zero h = refl
+sum-zero g (suc n) h = λ t. sum-zero g n (λ i l. h i (le-step l)) t +ℤ h n (lt-suc-self n) t
+
+pub terms-zero : (g : ℕ → ℤ) (n : ℕ) → ((i : ℕ) → i < n → pos 0 ≤ℤ g i) → sumTo g n ≡ pos 0 → (i : ℕ) → i < n → g i ≡ pos 0
+unfolding total
+terms-zero g zero h e i l = absurd (not-suc-le-zero l)
+terms-zero g (suc n) h e i l =
+    let b = both-zero (sumTo g n) (g n) (sum-nonneg g n (λ i l. h i (le-step l))) (h n (lt-suc-self n)) e in
+    ⊎-elim (λ d. ap g d ∙ b .1) (λ m. terms-zero g n (λ i l. h i (le-step l)) (b .0) i m) (eq-or-lt-of-le (le-of-suc-le-suc l))
 
 -- h rows of w terms each are h * w terms
 pub sum-rows : (g : ℕ → ℤ) (w h : ℕ) → sumTo (λ r. span g (r * w) w) h ≡ sumTo g (h * w)

@@ -7,9 +7,12 @@ use lib.Signed.{nonNeg}
 use lib.Ieee.{Float, binary64, round, ofBits}
 use lib.Ieee.Exact.{HasValue}
 
--- 0.0
+-- 0.0 and -0.0
 abbrev pub plusZero : Float
 plusZero = ofBits binary64 0x0
+
+abbrev pub minusZero : Float
+minusZero = ofBits binary64 0x8000_0000_0000_0000
 
 -- the f64 value nearest to z / 2 ^ k: plus zero for 0, and at k = 0 what `z as f64` is
 unfoldable pub ofScaled : ℕ → ℤ → Float

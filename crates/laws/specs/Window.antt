@@ -1,4 +1,4 @@
--- "A product's positions are the places where all its factors exist": a window of a plane, row after row, in the order of `for r in a..b { for q in c..d { .. } }`.
+-- Places of a plane, and a window of them: some rows with some columns, in the order of `for r in a..b { for q in c..d { .. } }`. A loop walks along a window; that its places are positions of a product is shown for each.
 use mathlib.Core.List.{List, [], _∷_, _++_, map}
 use Prim.Native.Nat.{ℕ}
 use Rattle.laws.specs.Table.{range}

@@ -10,14 +10,14 @@ use borrow.Author.Tests.{le-ltb}
 use Rattle.laws.specs.Sums.{sumTo, span}
 use Rattle.laws.specs.Scaled.{ofScaled}
 use Rattle.laws.specs.Window.{window}
-use Rattle.laws.specs.Law.{Held}
+use Rattle.laws.specs.Law.{Held, Positions}
 use Rattle.laws.proofs.Sums.{sum-factor-right}
 use Rattle.laws.proofs.Scaled.{scaled-finer}
 use Rattle.noise.specs.Noise.{noise, Pair, noiseOf}
 use Rattle.noise.specs.Average.{Luma, quarters}
 use Rattle.noise.specs.Seen.{sumOver}
 use Rattle.noise.specs.Products.{Factor, average, own, Inside, Exists, whole, exactly, scale}
-use Rattle.noise.specs.Claim.{Limited, limitOf, PositionsOf}
+use Rattle.noise.specs.Claim.{Limited, limitOf, Position}
 use Rattle.noise.specs.Steps.{InFit, near, tap, windowF}
 use Rattle.noise.proofs.Steps.{window-positions, window-sum, rows-sum, own-place, inside-on}
 
@@ -39,7 +39,7 @@ fit-exists plane lag u (near dr dc a b c d) y x h k l m =
 fit-exists plane lag u (tap luma over) y x h k l m = over y x k (omega arith)
 
 -- the window is a set of positions of any two of the factors
-pub fit-positions : (plane : Pair) (lag : ℕ) (u v : Factor) → InFit plane lag u → InFit plane lag v → PositionsOf u v (window lag (plane .height) lag (plane .width - lag))
+pub fit-positions : (plane : Pair) (lag : ℕ) (u v : Factor) → InFit plane lag u → InFit plane lag v → Positions (Position u v) (window lag (plane .height) lag (plane .width - lag))
 fit-positions plane lag u v a b =
     window-positions u v lag (plane .height) lag (plane .width - lag) (λ y x h k l m. (fit-exists plane lag u a y x h k l m, fit-exists plane lag v b y x h k l m))
 

@@ -17,6 +17,7 @@ use Rattle.laws.proofs.Sums.{sum-bound}
 use Rattle.laws.proofs.Whole.{abs-mul}
 use Rattle.laws.proofs.Scaled.{holds-scaled, holds-finer, div-scaled}
 use Rattle.laws.proofs.LoopLaw.{plane-exact}
+use Rattle.laws.proofs.Accumulators.{loops-pair}
 use Rattle.noise.specs.Noise.{noise, noiseF}
 use Rattle.noise.specs.Average.{Luma, lumaPlace, visited, averageF, quarters}
 use Rattle.noise.proofs.FloatNoise.{noise-exact}
@@ -24,7 +25,7 @@ use Rattle.noise.proofs.Halving.{Bit, kept, halved}
 
 -- 1, 2 or 4 luma noises, and 1.0 for each
 visits : (a b : ℕ) → Bit a → Bit b → ((b + 1) * (a + 1) ≤ 4) × (a + b ≤ 2)
-    × HasValue (loop 0 (b + 1) (λ i s. loop 0 (a + 1) (λ j s. add binary64 s one) s) plusZero) false (2 ^ (a + b)) 1
+    × HasValue (loop 0 (b + 1) (λ i. loop 0 (a + 1) (λ j s. add binary64 s one)) plusZero) false (2 ^ (a + b)) 1
 unfolding loop turns ofBits add
 visits a b halved halved = (lit≤ tt, lit≤ tt, (refl, refl))
 visits a b halved kept = (lit≤ tt, lit≤ tt, (refl, refl))
@@ -63,13 +64,25 @@ module _ (luma : Luma) (x : Bit (luma .sampling .across)) (y : Bit (luma .sampli
       (sum-bound (λ i. sumTo (lumaNoise i) (luma .sampling .across + 1)) ((luma .sampling .across + 1) * top) (luma .sampling .down + 1)
       (λ i l. sum-bound (lumaNoise i) top (luma .sampling .across + 1) (λ j k. one-exact i j .0)))
 
+  -- the two accumulators, each by its own loop
+  abbrev acc : Float
+  acc = loop 0 (luma .sampling .down + 1) (λ i. loop 0 (luma .sampling .across + 1) (λ j s. add binary64 s (noiseF (luma .plane .source) (luma .plane .denoised) (lumaPlace luma r c i j)))) plusZero
+
+  abbrev cnt : Float
+  cnt = loop 0 (luma .sampling .down + 1) (λ i. loop 0 (luma .sampling .across + 1) (λ j s. add binary64 s one)) plusZero
+
+  apart : averageF luma r c ≡ div binary64 acc cnt
+  unfolding averageF visited
+  apart = ap (λ (s : Float × Float). div binary64 (s .0) (s .1)) (loops-pair _ _ 0 (luma .sampling .down + 1) 0 (luma .sampling .across + 1) (plusZero, plusZero))
+
   pub average-exact : (natAbs (quarters luma r c) ≤ 4 * top) × Holds 2 (quarters luma r c) (averageF luma r c)
-  unfolding quarters averageF visited ofBits
+  unfolding quarters
   average-exact =
       let v = visits (luma .sampling .across) (luma .sampling .down) x y in (
         le-trans (le-of-eq (abs-mul total (pos (2 ^ (2 - (luma .sampling .across + luma .sampling .down)))))) (total-le .1),
-        over-power (luma .sampling .across + luma .sampling .down) total _ _ (v .1) (le-trans (total-le .0) room)
+        subst (λ (t : Float). Holds 2 (quarters luma r c) t) (sym apart)
+            (over-power (luma .sampling .across + luma .sampling .down) total acc cnt (v .1) (le-trans (total-le .0) room)
             (plane-exact (record { scale = 0; count = 4; size = top }) (record { fine = lit≤ tt; room = room }) (luma .sampling .down + 1) (luma .sampling .across + 1)
             (λ i j. noiseF (luma .plane .source) (luma .plane .denoised) (lumaPlace luma r c i j)) lumaNoise (v .0) (λ i j k l. one-exact i j .0) (λ i j k l. one-exact i j .1))
-            (v .2),
+            (v .2)),
       )

@@ -13,7 +13,7 @@ use Rattle.laws.specs.Sums.{sumTo, span}
 use Rattle.laws.specs.Scaled.{plusZero, ofScaled}
 use Rattle.laws.specs.Window.{window}
 use Rattle.laws.specs.FloatSums.{sumF}
-use Rattle.laws.specs.Law.{Held}
+use Rattle.laws.specs.Law.{Held, Positions}
 use Rattle.laws.proofs.Sums.{spans-zero}
 use Rattle.laws.proofs.Window.{in-window, window-nodup, sum-window}
 use Rattle.laws.proofs.FloatSums.{loops-sum}
@@ -21,16 +21,16 @@ use Rattle.laws.specs.Limits.{planeLimit, sampleLimit}
 use Rattle.noise.specs.Noise.{noise, noiseF, place, Pair}
 use Rattle.noise.specs.Seen.{sumOver, laggedSum}
 use Rattle.noise.specs.Products.{Factor, own, onward, Inside, Exists, reached, productF, exactly, scale}
-use Rattle.noise.specs.Claim.{Limited, limitOf, PositionsOf, Case}
+use Rattle.noise.specs.Claim.{Limited, limitOf, Position, Case}
 use Rattle.noise.specs.Steps.{windowF, dotF, lagF}
 use Rattle.noise.proofs.Loops.{loop-rows, loop-tested}
-use Rattle.noise.proofs.Products.{products-exact, frame-products-exact}
+use Rattle.noise.proofs.Products.{products-within, products-exact}
 
 -- ---- a window all of whose places are positions
 abbrev pub Everywhere : Factor → Factor → ℕ → ℕ → ℕ → ℕ → Type 0
 Everywhere u v a b c d = (y x : ℕ) → a ≤ y → y < b → c ≤ x → x < d → Exists u (y, x) × Exists v (y, x)
 
-pub window-positions : (u v : Factor) (a b c d : ℕ) → Everywhere u v a b c d → PositionsOf u v (window a b c d)
+pub window-positions : (u v : Factor) (a b c d : ℕ) → Everywhere u v a b c d → Positions (Position u v) (window a b c d)
 window-positions u v a b c d e = record {
   once = window-nodup a b c d;
   exist = λ p h. let k = in-window a b c d p h in e (p .0) (p .1) (k .0) (k .1) (k .2) (k .3);
@@ -45,14 +45,14 @@ pub frame-case : (u v : Factor) (a b c d : ℕ) → Everywhere u v a b c d → L
 frame-case u v a b c d e S T = record {
   positions = window-positions u v a b c d e;
   added = window-case u v a b c d;
-  exact = frame-products-exact u v S T;
+  exact = products-exact u v S T;
 }
 
 module _ (limit top : ℕ) (u v : Factor) (H : Held (limitOf limit top u v)) (S : Limited limit top u) (T : Limited limit top v) where
   pub window-sum : (a b c d : ℕ) → Everywhere u v a b c d → windowF u v a b c d ≡ ofScaled (scale u v) (span (λ y. span (λ x. exactly u v (y, x)) c (d - c)) a (b - a))
   window-sum a b c d e =
       window-case u v a b c d
-      ∙ products-exact limit top u v H S T (window a b c d) (window-positions u v a b c d e) .exact (window a b c d) (record { once = window-nodup a b c d; inside = λ p h. h })
+      ∙ products-within limit top u v H S T .exact (window a b c d) (window-positions u v a b c d e)
       ∙ ap (ofScaled (scale u v)) (sum-window (λ y x. exactly u v (y, x)) a b c d)
 
   -- counted from 0

@@ -26,18 +26,19 @@ abbrev pub lumaPlace : Luma → ℕ → ℕ → ℕ → ℕ → ℕ
 lumaPlace l r c i j =
     place (l .plane .width) (min (r * 2 ^ l .sampling .down + i) (l .plane .height - 1)) (min (c * 2 ^ l .sampling .across + j) (l .plane .width - 1))
 
--- the luma rows and columns of a chroma place, each visited in order
-unfoldable pub visited : Luma → (ℕ → ℕ → Float → Float) → Float
+-- the luma rows and columns of a chroma place, each visited in order: `acc += ny[yy * w + xx]; cnt += 1.0;`
+unfoldable pub visited : Luma → ℕ → ℕ → Float × Float
 unfolding loop
-visited l f = loop 0 (l .sampling .down + 1) (λ i s. loop 0 (l .sampling .across + 1) (λ j s. f i j s) s) plusZero
+visited l r c =
+    loop 0 (l .sampling .down + 1)
+    (λ i. loop 0 (l .sampling .across + 1)
+    (λ j (s : Float × Float). (add binary64 (s .0) (noiseF (l .plane .source) (l .plane .denoised) (lumaPlace l r c i j)), add binary64 (s .1) one)))
+    (plusZero, plusZero)
 
--- `acc += noise; cnt += 1.0`, then `acc / cnt`
+-- `acc / cnt`
 unfoldable pub averageF : Luma → ℕ → ℕ → Float
 unfolding visited
-averageF l r c =
-    div binary64
-    (visited l (λ i j acc. add binary64 acc (noiseF (l .plane .source) (l .plane .denoised) (lumaPlace l r c i j))))
-    (visited l (λ i j cnt. add binary64 cnt one))
+averageF l r c = let s = visited l r c in div binary64 (s .0) (s .1)
 
 -- exactly: four times the average
 unfoldable pub quarters : Luma → ℕ → ℕ → ℤ

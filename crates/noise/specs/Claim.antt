@@ -1,17 +1,16 @@
--- "For every noise product behind a fit or gate, every set of its positions, every order: the f64 sum from plus zero is the exact sum;
--- for two disjoint parts, the sum over both, in any order, is the two parts' sums added in f64. (At most 4,096×4,096 samples below 2^12.)"
+-- "For every noise product behind a fit or gate, every set of its positions and every order of taking them, each once: its sum in f64 from plus zero is the exact sum;
+-- for every two disjoint parts, whatever the order in each, the sum over both together, in any order, equals the two parts' sums added in f64. (At most 4,096×4,096 samples below 2^12.)"
 use mathlib.Core.Path.{_≡_}
 use mathlib.Core.List.{List, map}
 use Prim.Native.Nat.{ℕ, _*_, _^_, _≤_, _<_}
 use lib.ListN.{getD}
 use lib.Ieee.{Float}
 use Rattle.laws.specs.Window.{Place}
-use Rattle.laws.specs.Sets.{In, NoDup}
 use Rattle.laws.specs.FloatSums.{sumF}
-use Rattle.laws.specs.Law.{Limit, ExactSums}
-use Rattle.laws.specs.Limits.{planeLimit, sampleLimit}
+use Rattle.laws.specs.Law.{Limit, Positions, ExactSums}
 use Rattle.noise.specs.Products.{Factor, noiseFrom, average, Exists, productF, exactly, scale}
 
+-- ---- the premise, for any limit
 -- at most `limit` samples, each below `top`, in a plane and in its copy; past a list's end the sample is 0
 pub record Samples (limit top : ℕ) (source denoised : List ℕ) (count : ℕ) : Type 0 where
   pub few : count ≤ limit
@@ -29,17 +28,16 @@ Limited limit top (average luma) =
 abbrev pub limitOf : ℕ → ℕ → Factor → Factor → Limit
 limitOf limit top u v = record { scale = scale u v; count = limit; size = 2 ^ scale u v * (top * top) }
 
--- a set of a product's positions
-pub record PositionsOf (u v : Factor) (ps : List Place) : Type 0 where
-  pub once : NoDup ps
-  pub exist : (p : Place) → In p ps → Exists u p × Exists v p
+-- ---- the claim
+-- "A product's positions are the places where all its factors exist."
+abbrev pub Position : Factor → Factor → Place → Type 0
+Position u v p = Exists u p × Exists v p
 
--- the claim, of any set of its positions: every set within it, in every order, has an exact sum, and two parts add up
-abbrev pub Exact : ℕ → ℕ → Factor → Factor → Type 0
-Exact limit top u v = (all : List Place) → PositionsOf u v all → ExactSums (limitOf limit top u v) all (productF u v) (exactly u v)
+abbrev pub Exact : Factor → Factor → Type 0
+Exact u v = ExactSums (scale u v) (Position u v) (productF u v) (exactly u v)
 
 -- "the sums of noise products that the calls make are cases of it": a sum adds a product over a set of its positions, and the claim holds of that product
 pub record Case (u v : Factor) (places : List Place) (sum : Float) : Type 0 where
-  pub positions : PositionsOf u v places
+  pub positions : Positions (Position u v) places
   pub added : sum ≡ sumF (map (productF u v) places)
-  pub exact : Exact planeLimit sampleLimit u v
+  pub exact : Exact u v

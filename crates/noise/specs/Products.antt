@@ -31,6 +31,7 @@ Exists (noiseFrom plane dr dc) (r, c) = Inside (plane .height) (pos r +ℤ dr) �
 Exists (average luma) (r, c) = (r < sampled (luma .sampling .down) (luma .plane .height)) × (c < sampled (luma .sampling .across) (luma .plane .width))
 
 -- ---- the product in f64, each factor worked as the Rust does
+-- the sample that a factor reaches from a place; `natAbs` reads the row and the column as numbers, which neither is negative where the factor exists
 abbrev pub reached : Pair → ℤ → ℤ → Place → ℕ
 reached plane dr dc (r, c) = place (plane .width) (natAbs (pos r +ℤ dr)) (natAbs (pos c +ℤ dc))
 

@@ -1,4 +1,4 @@
--- "the sums of noise products that the calls make are cases of it": these sums as the Rust adds them, from 0.0, in its order.
+-- "the sums of noise products that the calls make are cases of it": these sums as the Rust adds them, in its order, each by a loop of its own. It starts them at 0.0, but for `dot`.
 use mathlib.Core.Bool.{cond}
 use Prim.Native.Nat.{ℕ, _+_, _*_, _<_}
 use lib.Dec.{ltb}
@@ -21,13 +21,17 @@ pub data InFit (plane : Pair) (lag : ℕ) : Factor → Type 0 where
   near : (dr dc : ℤ) → negℤ (pos lag) ≤ℤ dr → dr ≤ℤ pos 0 → negℤ (pos lag) ≤ℤ dc → dc ≤ℤ pos lag → InFit plane lag (noiseFrom plane dr dc)
   tap : (luma : Luma) → ((r c : ℕ) → r < plane .height → c < plane .width → Exists (average luma) (r, c)) → InFit plane lag (average luma)
 
--- the gates: `dot` of two noise vectors, from plus zero
-unfoldable pub dotF : Pair → Pair → Float
-unfolding loop
-dotF a b =
+-- the gates: `dot` of two noise vectors, `a.iter().zip(b).map(|(x, y)| x * y).sum()`, from where the sum starts
+abbrev pub dotFrom : Float → Pair → Pair → Float
+dotFrom start a b =
     loop 0 (a .width * a .height)
     (λ i s. add binary64 s (mul binary64 (noiseF (a .source) (a .denoised) i) (noiseF (b .source) (b .denoised) i)))
-    plusZero
+    start
+
+-- "from plus zero"; the Rust's `sum()` starts at -0.0, from which both gates find the same
+unfoldable pub dotF : Pair → Pair → Float
+unfolding loop
+dotF a b = dotFrom plusZero a b
 
 -- the row correlation in `lag_h_rho`: `for r in 0..h { for c in 0..w { if c + lag < w { lagsum += n[r * w + c] * n[r * w + c + lag]; } } }`
 unfoldable pub lagF : Pair → ℕ → Float

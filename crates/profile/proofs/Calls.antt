@@ -26,7 +26,7 @@ use Rattle.profile.specs.declared.NoiseEstimate.{NoiseEstimate}
 use Rattle.profile.proofs.AsWorded.{plane-in-words, in-words}
 
 -- the samples of a plane and its copy, as an accepted call has them
-low : {w h depth : ℕ} {a b : List ℕ} → Sides w h → Depth depth → LowPlane (w * h) depth a → LowPlane (w * h) depth b → LowSamples depth a b
+pub low : {w h depth : ℕ} {a b : List ℕ} → Sides w h → Depth depth → LowPlane (w * h) depth a → LowPlane (w * h) depth b → LowSamples depth a b
 low S d p q =
     record {
       least-depth = d .least;

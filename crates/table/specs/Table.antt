@@ -52,6 +52,9 @@ pub record Table : Type 0 where
   pub luma-gate : Right Gates.lumaFound Gates.cases
   pub chroma-gate : Right Gates.chromaFound Gates.cases
   pub row-correlation : Right Gates.rowFound Gates.rowCases
+  -- the temporal test beside the comparison of squares that it is not, of sums and of frames
+  pub temporal-test : Right Gates.tests Gates.testCases
+  pub near-the-limit : Right Gates.nearFound Gates.nearCases
   -- * seeds; * the register
   pub seeds : Right seed Random.seeds
   pub draws : Right Random.asked Random.draws

@@ -1,14 +1,16 @@
 -- `gate::row_correlation::row_correlation`: the sums, then the quotient. Assumes nothing.
+use mathlib.Core.Path.{sym}
 use borrow.Author.Needs.{needs}
-use Rattle.gate.proofs.Rows.{unlagged, narrow, row-is}
+use Rattle.gate.proofs.PlusZero.{lag-zero, narrow-zero}
+use Rattle.gate.proofs.Rows.{row-is}
 use Rattle.gate.proofs.row_correlation.row_correlation.Statement.{statement}
 use Rattle.gate.proofs.row_correlation.row_correlation.Tie as tie
 
 returns : tie.Need-returns
-returns c = unlagged _ _ (c .if1 .taken)
+returns c = sym (lag-zero _ _ (c .if1 .taken))
 
 returns-2 : tie.Need-returns-2
-returns-2 c = narrow _ _ (c .before .before .if1 .left) (c .if2 .taken)
+returns-2 c = sym (narrow-zero _ _ (c .if2 .taken))
 
 returns-3 : tie.Need-returns-3
 returns-3 c =
