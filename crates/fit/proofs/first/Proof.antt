@@ -16,9 +16,6 @@ Inv-loop x out₀ i₀ out i = Filled (λ k. getD x k (pos 0)) out₀ out i
 abbrev μ-loop : tie.MeasureT-loop
 μ-loop x out₀ i₀ out i = 24 - i
 
-loop-holds : tie.Need-loop-holds Inv-loop μ-loop
-loop-holds c = fill-starts _ _
-
 loop-again : tie.Need-loop-again Inv-loop μ-loop
 loop-again c = fill-turn _ _ _ (c .before .before .loop .inv) (search needs) (toZ-ofZ w32 _ (record { sfits = c .out .given }))
 
@@ -32,7 +29,7 @@ first-spec =
     (tie.spec
     Inv-loop
     μ-loop
-    loop-holds
+    (λ c. fill-starts _ _)
     (λ c. search needs)
     (λ c. search needs)
     (λ c. search needs)

@@ -19,9 +19,6 @@ granted c = fit-seen _ _ _ _ _ _ _ _ (sym (c .before .fit-refusal .ensures) ∙ 
 returns : tie.Need-returns
 returns c = c .unfitted .ensures ∙ refused _ _ _ _ _ _ _ _ _ (c .before .before .fit-refusal .ensures) (c .before .if1 .taken)
 
-neighbour-count-requires : tie.Need-neighbour-count-requires
-neighbour-count-requires c κs = granted (c .before) .1
-
 luma-fit-requires : tie.Need-luma-fit-requires
 luma-fit-requires c κs = let g = granted (c .before .before) in (rw (c .before .geometry .ensures) (g .0 .luma), g .1)
 
@@ -51,7 +48,7 @@ fit-ar-lag-spec =
     (λ c κs. search needs)
     returns
     (λ c κs. search needs)
-    neighbour-count-requires
+    (λ c κs. granted (c .before) .1)
     luma-fit-requires
     (λ c κs. search needs)
     all-zero-requires

@@ -18,9 +18,6 @@ returns c = c .refused-gate .ensures ∙ luma-refused _ _ _ _ _ (c .before .befo
 passed : (c : tie.Else1) → let A = c .before .before .before .before .before .before .args in gateRefusal (A .s) Y (A .src0 .now) (A .den0 .now) (A .src1 .now) (A .den1 .now) ≡ 0
 passed c = sym (c .before .gate-refusal .ensures) ∙ c .if1 .left
 
-sub-shift : tie.Need-sub-shift
-sub-shift c = gate-call _ Y _ _ _ _ (passed (c .before .before)) .shape .depth .least
-
 luma-finding-requires : tie.Need-luma-finding-requires
 luma-finding-requires c κs =
     let e = passed (c .before .before) in
@@ -40,7 +37,7 @@ film-grain-probe-spec =
     (λ c κs. search needs)
     returns
     (λ c κs. search needs)
-    sub-shift
+    (λ c. gate-call _ Y _ _ _ _ (passed (c .before .before)) .shape .depth .least)
     (λ c. search needs)
     luma-finding-requires
     (λ c κs. search needs)

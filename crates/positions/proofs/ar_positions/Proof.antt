@@ -28,17 +28,8 @@ returns c = rw (c .refused .ensures, ← c .before .before .lag-refusal .ensures
 lag-known : (c : tie.Else1 Inv-loop μ-loop) → c .before .before .args .lag ≤ 3
 lag-known c = lag-fits _ (sym (c .before .lag-refusal .ensures) ∙ c .if1 .left)
 
-mul-count-2 : tie.Need-mul-count-2 Inv-loop μ-loop
-mul-count-2 c = omega (arith, neighbours-le (lag-known c))
-
-loop-holds : tie.Need-loop-holds Inv-loop μ-loop
-loop-holds c = (lag-known c, record { some = zero-le; rows-are = refl; columns-are = refl })
-
 few : (c : tie.In-loop Inv-loop μ-loop) → c .before .loop .i < 24
 few c = omega (arith, neighbours-le (c .before .loop .inv .0))
-
-offset-requires : tie.Need-offset-requires Inv-loop μ-loop
-offset-requires c κs = (le-trans (div-le-self (c .before .loop .i) _) (le-of-lt (few c)), search needs)
 
 offset-requires-2 : tie.Need-offset-requires-2 Inv-loop μ-loop
 offset-requires-2 c κs = (le-trans (mod-le (c .before .before .loop .i) _) (le-of-lt (few (c .before))), search needs)
@@ -68,10 +59,10 @@ ar-positions-spec =
     (λ c. omega (arith, lag-known c))
     (λ c. omega (arith, lag-known c))
     (λ c. omega (arith, lag-known c))
-    mul-count-2
-    loop-holds
+    (λ c. omega (arith, neighbours-le (lag-known c)))
+    (λ c. (lag-known c, record { some = zero-le; rows-are = refl; columns-are = refl }))
     (λ c. search needs)
-    offset-requires
+    (λ c κs. (le-trans (div-le-self (c .before .loop .i) _) (le-of-lt (few c)), search needs))
     (λ c. omega (arith, few (c .before)))
     (λ c. few (c .before))
     (λ c. search needs)

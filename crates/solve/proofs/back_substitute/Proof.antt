@@ -12,9 +12,6 @@ Inv-loop a b order x₀ n₀ x n = Turned (placed order (record { matrix = a; ri
 abbrev μ-loop : tie.MeasureT-loop
 μ-loop a b order x₀ n₀ x n = order - n
 
-loop-holds : tie.Need-loop-holds Inv-loop μ-loop
-loop-holds c = turned-starts _ _ _ _ (search needs)
-
 loop-again : tie.Need-loop-again Inv-loop μ-loop
 unfolding placed
 loop-again c =
@@ -31,7 +28,7 @@ back-substitute-spec =
     (tie.spec
     Inv-loop
     μ-loop
-    loop-holds
+    (λ c. turned-starts _ _ _ _ (search needs))
     (λ c. search needs)
     (λ c. search needs)
     (λ c. search needs)

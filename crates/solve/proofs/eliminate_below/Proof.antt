@@ -16,9 +16,6 @@ Inv-loop b₀ i order a₀ pivot r₀ b a r = (pivot ≡ getD a i []) × Turned 
 abbrev μ-loop : tie.MeasureT-loop
 μ-loop b₀ i order a₀ pivot r₀ b a r = order - r
 
-loop-holds : tie.Need-loop-holds Inv-loop μ-loop
-loop-holds c = (refl, turned-starts _ _ _ _ (search needs))
-
 loop-again : tie.Need-loop-again Inv-loop μ-loop
 loop-again c =
     let at = c .before .before .before .before .before .before .before in
@@ -41,7 +38,7 @@ eliminate-below-spec =
     (λ c. search needs)
     (λ c. search needs)
     (λ c. search needs)
-    loop-holds
+    (λ c. (refl, turned-starts _ _ _ _ (search needs)))
     (λ c. search needs)
     (λ c. search needs)
     (λ c κs. search needs)

@@ -13,9 +13,6 @@ Inv-loop row₀ pivot i order f c₀ row c = Turned (λ c left. entryLess left c
 abbrev μ-loop : tie.MeasureT-loop
 μ-loop row₀ pivot i order f c₀ row c = order - c
 
-loop-holds : tie.Need-loop-holds Inv-loop μ-loop
-loop-holds c = turned-starts _ _ _ _ (search needs)
-
 loop-again : tie.Need-loop-again Inv-loop μ-loop
 loop-again c = turned-more _ _ _ _ _ (c .before .before .before .before .loop .inv) (search needs) (c .less-entry .ensures)
 
@@ -30,7 +27,7 @@ less-row-spec =
     Inv-loop
     μ-loop
     (λ c κs. search needs)
-    loop-holds
+    (λ c. turned-starts _ _ _ _ (search needs))
     (λ c. search needs)
     (λ c. search needs)
     (λ c κs. search needs)

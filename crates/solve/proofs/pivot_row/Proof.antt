@@ -16,9 +16,6 @@ Inv-loop a order i piv₀ r₀ piv r = (piv < order) × Turned (larger a i) (i +
 abbrev μ-loop : tie.MeasureT-loop
 μ-loop a order i piv₀ r₀ piv r = order - r
 
-loop-holds : tie.Need-loop-holds Inv-loop μ-loop
-loop-holds c = (search needs, turned-starts _ _ _ _ (search needs))
-
 loop-again : tie.Need-loop-again Inv-loop μ-loop
 unfolding larger
 loop-again c =
@@ -44,7 +41,7 @@ pivot-row-spec =
     Inv-loop
     μ-loop
     (λ c. search needs)
-    loop-holds
+    (λ c. (search needs, turned-starts _ _ _ _ (search needs)))
     (λ c. search needs)
     (λ c. search needs)
     (λ c. search needs)

@@ -14,9 +14,6 @@ Inv-loop row right x i order v₀ j₀ v j = Turned (knownLess row x) (i + 1) or
 abbrev μ-loop : tie.MeasureT-loop
 μ-loop row right x i order v₀ j₀ v j = order - j
 
-loop-holds : tie.Need-loop-holds Inv-loop μ-loop
-loop-holds c = turned-starts _ _ _ _ (search needs)
-
 loop-again : tie.Need-loop-again Inv-loop μ-loop
 unfolding knownLess
 loop-again c = turned-more _ _ _ _ _ (c .before .before .loop .inv) (search needs) (c .less-known .ensures)
@@ -35,7 +32,7 @@ unknown-spec =
     Inv-loop
     μ-loop
     (λ c. search needs)
-    loop-holds
+    (λ c. turned-starts _ _ _ _ (search needs))
     (λ c κs. search needs)
     (λ c. search needs)
     (λ c. search needs)

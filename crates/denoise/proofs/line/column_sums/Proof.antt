@@ -37,9 +37,6 @@ loop-again c =
     let L = c .before .before .loop in
     (refl, omega arith, simp length-set (L .inv .2), store (A .up .now) (A .mid .now) (A .down .now) (length (A .up .now)) (L .c + 1) (L .c) (L .line) _ (c .column-sum2 .ensures) (omega arith) (omega arith) (L .inv .3))
 
-same-length : tie.Need-same-length Inv-loop μ-loop
-same-length c = simp length-set (omega arith)
-
 returns : tie.Need-returns Inv-loop μ-loop
 unfolding columnSums
 returns c =
@@ -71,5 +68,5 @@ column-sums-spec =
     (λ c. search needs)
     (λ c. search needs)
     (λ c. search needs)
-    same-length
+    (λ c. simp length-set (omega arith))
     returns)

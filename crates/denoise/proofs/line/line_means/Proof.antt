@@ -14,14 +14,8 @@ Inv-loop line out₀ c₀ c-end out c = (c-end ≡ length out₀) × Filled (lin
 abbrev μ-loop : tie.MeasureT-loop
 μ-loop line out₀ c₀ c-end out c = length out₀ - c
 
-loop-holds : tie.Need-loop-holds Inv-loop μ-loop
-loop-holds c = (search needs, fill-starts _ _)
-
 loop-again : tie.Need-loop-again Inv-loop μ-loop
 loop-again c = (search needs, fill-turn _ _ _ (c .before .before .loop .inv .1) (search needs) (c .mean-at .ensures))
-
-same-length : tie.Need-same-length Inv-loop μ-loop
-same-length c = c .before .loop .inv .1 .same
 
 returns : tie.Need-returns Inv-loop μ-loop
 returns c = fill-ends _ _ (c .before .loop .inv .1) (c .loop-test .left)
@@ -32,12 +26,12 @@ line-means-spec =
     (tie.spec
     Inv-loop
     μ-loop
-    loop-holds
+    (λ c. (search needs, fill-starts _ _))
     (λ c κs. search needs)
     (λ c. search needs)
     (λ c. search needs)
     (λ c. search needs)
     (λ c. search needs)
     loop-again
-    same-length
+    (λ c. c .before .loop .inv .1 .same)
     returns)

@@ -9,30 +9,6 @@ use borrow.Author.Needs.{needs}
 use Rattle.denoise.proofs.line.mean_at.Statement.{statement}
 use Rattle.denoise.proofs.line.mean_at.Tie as tie
 
-mul-weigh-three : tie.Need-mul-weigh-three
-mul-weigh-three c = search needs
-
-shared-slice-read-weigh-three : tie.Need-shared-slice-read-weigh-three
-shared-slice-read-weigh-three c = search needs
-
-add-weigh-three : tie.Need-add-weigh-three
-add-weigh-three c = search needs
-
-mul-weigh-three-2 : tie.Need-mul-weigh-three-2
-mul-weigh-three-2 c = search needs
-
-shared-slice-read-weigh-three-2 : tie.Need-shared-slice-read-weigh-three-2
-shared-slice-read-weigh-three-2 c = search needs
-
-add-weigh-three-2 : tie.Need-add-weigh-three-2
-add-weigh-three-2 c = search needs
-
-mul-weigh-three-3 : tie.Need-mul-weigh-three-3
-mul-weigh-three-3 c = search needs
-
-shared-slice-read-weigh-three-3 : tie.Need-shared-slice-read-weigh-three-3
-shared-slice-read-weigh-three-3 c = search needs
-
 low : (line : List ℕ) (c : ℕ) → c + 2 < length line → SumsLow line → weigh (getD line c 0) (getD line (c + 1) 0) (getD line (c + 2) 0) ≤ 16 * 65535
 low line c l h = omega (arith, h c (omega arith), h (c + 1) (omega arith), h (c + 2) (omega arith))
 
@@ -52,14 +28,14 @@ pub mean-at-spec : {M : Type 1} → statement M
 mean-at-spec =
     tie.close
     (tie.spec
-    mul-weigh-three
-    shared-slice-read-weigh-three
-    add-weigh-three
-    mul-weigh-three-2
-    shared-slice-read-weigh-three-2
-    add-weigh-three-2
-    mul-weigh-three-3
-    shared-slice-read-weigh-three-3
+    (λ c. search needs)
+    (λ c. search needs)
+    (λ c. search needs)
+    (λ c. search needs)
+    (λ c. search needs)
+    (λ c. search needs)
+    (λ c. search needs)
+    (λ c. search needs)
     weigh-three-requires
     mean-of-requires
     returns)

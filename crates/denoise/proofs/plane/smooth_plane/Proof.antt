@@ -15,9 +15,6 @@ returns c = let S = c .before .before .before in rows-none (S .args .src .now) (
 line-length : (c : tie.After-blank-line) → let w = c .before .before .before .before .args .width in length (take (w + 2) (c .blank-line .result)) ≡ w + 2
 line-length c = length-take-le _ _ (search needs)
 
-slice-aggregate-smooth-rows : tie.Need-slice-aggregate-smooth-rows
-slice-aggregate-smooth-rows c = sym (line-length (c .before))
-
 smooth-rows-requires : tie.Need-smooth-rows-requires
 smooth-rows-requires c κs = let S = c .before .before .before .before .before .before in (S .pre .1, omega arith, line-length (c .before .before), S .pre .2)
 
@@ -32,7 +29,7 @@ smooth-plane-spec =
     (λ c κs. search needs)
     (λ c. search needs)
     (λ c. search needs)
-    slice-aggregate-smooth-rows
+    (λ c. sym (line-length (c .before)))
     smooth-rows-requires
     (λ c. search needs)
     returns-2)

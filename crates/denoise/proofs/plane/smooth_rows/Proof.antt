@@ -23,18 +23,6 @@ loop-holds c = let S = c .before .before .before in (omega arith, S .pre .2, S .
 row-fits : (c : tie.In-loop Inv-loop μ-loop) → let A = c .before .before .before .before .before .args in c .before .loop .row * A .width + A .width ≤ A .width * A .height
 row-fits c = row-within _ _ _ (c .loop-test .taken)
 
-mul-a : tie.Need-mul-a Inv-loop μ-loop
-mul-a c = omega (arith, row-fits c)
-
-add-e : tie.Need-add-e Inv-loop μ-loop
-add-e c = omega (arith, row-fits c)
-
-mul-smooth-row : tie.Need-mul-smooth-row Inv-loop μ-loop
-mul-smooth-row c = omega (arith, row-fits (c .before))
-
-part-smooth-row-end : tie.Need-part-smooth-row-end Inv-loop μ-loop
-part-smooth-row-end c = omega (arith, row-fits (c .before))
-
 smooth-row-requires : tie.Need-smooth-row-requires Inv-loop μ-loop
 smooth-row-requires c κs =
     let S = c .before .before .before .before .before .before .before in
@@ -61,12 +49,12 @@ smooth-rows-spec =
     Inv-loop
     μ-loop
     loop-holds
-    mul-a
-    add-e
-    mul-smooth-row
+    (λ c. omega (arith, row-fits c))
+    (λ c. omega (arith, row-fits c))
+    (λ c. omega (arith, row-fits (c .before)))
     (λ c. search needs)
     (λ c. search needs)
-    part-smooth-row-end
+    (λ c. omega (arith, row-fits (c .before)))
     smooth-row-requires
     (λ c. search needs)
     (λ c. search needs)

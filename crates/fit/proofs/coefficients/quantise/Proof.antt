@@ -17,9 +17,6 @@ Inv-loop x out₀ i₀ out i = Filled (λ k. quantAr (value x k)) out₀ out i
 abbrev μ-loop : tie.MeasureT-loop
 μ-loop x out₀ i₀ out i = 25 - i
 
-loop-holds : tie.Need-loop-holds Inv-loop μ-loop
-loop-holds c = fill-starts _ _
-
 loop-again : tie.Need-loop-again Inv-loop μ-loop
 loop-again c = fill-turn _ _ _ (c .before .before .loop .inv) (search needs) (toZ-ofZ w32 _ (record { sfits = c .quant-ar .ok }) ∙ c .quant-ar .ensures)
 
@@ -33,7 +30,7 @@ quantise-spec =
     (tie.spec
     Inv-loop
     μ-loop
-    loop-holds
+    (λ c. fill-starts _ _)
     (λ c. search needs)
     (λ c. search needs)
     (λ c κs. search needs)

@@ -5,15 +5,6 @@ use Rattle.normal.proofs.Sizes.{starts-few, sides-few, sums-few}
 use Rattle.fit.proofs.counts.sums_size.Statement.{statement}
 use Rattle.fit.proofs.counts.sums_size.Tie as tie
 
-mul-result : tie.Need-mul-result
-mul-result c = omega (arith, starts-few (c .pre))
-
-mul-result-2 : tie.Need-mul-result-2
-mul-result-2 c = omega (arith, sides-few (c .pre))
-
-mul-result-3 : tie.Need-mul-result-3
-mul-result-3 c = omega (arith, sums-few (c .pre))
-
 pub sums-size-spec : {M : Type 1} → statement M
 sums-size-spec =
     tie.close
@@ -22,7 +13,7 @@ sums-size-spec =
     (λ c. search needs)
     (λ c. search needs)
     (λ c. search needs)
-    mul-result
-    mul-result-2
-    mul-result-3
+    (λ c. omega (arith, starts-few (c .pre)))
+    (λ c. omega (arith, sides-few (c .pre)))
+    (λ c. omega (arith, sums-few (c .pre)))
     (λ c. search needs))

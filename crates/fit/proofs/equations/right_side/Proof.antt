@@ -15,9 +15,6 @@ Inv-loop sums taps lag p right₀ i₀ right i = Filled (valueOf (rightSum (sumA
 abbrev μ-loop : tie.MeasureT-loop
 μ-loop sums taps lag p right₀ i₀ right i = 25 - i
 
-loop-holds : tie.Need-loop-holds Inv-loop μ-loop
-loop-holds c = fill-starts _ _
-
 loop-again : tie.Need-loop-again Inv-loop μ-loop
 loop-again c = fill-turn _ _ _ (c .before .before .loop .inv) (search needs) (c .right-value .ensures)
 
@@ -31,7 +28,7 @@ right-side-spec =
     (tie.spec
     Inv-loop
     μ-loop
-    loop-holds
+    (λ c. fill-starts _ _)
     (λ c κs. search needs)
     (λ c. search needs)
     (λ c. search needs)

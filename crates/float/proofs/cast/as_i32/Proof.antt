@@ -59,9 +59,6 @@ more n k h = omega arith
 from-calls : (c : tie.After-as-u64) (s : Bool) → lt (c .before .before .args .x) plusZero ≡ s → side 31 s (c .as-u64 .result) ≡ toSigned 31 (c .before .before .args .x)
 from-calls c s t = known (c .before .before .args .x) (c .before .magnitude .result) s (c .as-u64 .result) t (c .before .magnitude .ensures) (c .as-u64 .ensures)
 
-sub-result : tie.Need-sub-result
-sub-result c = negation-fits (c .before .before .as-u64 .result) (c .if2 .taken)
-
 returns : tie.Need-returns
 returns c =
     let n = c .before .before .as-u64 .result in
@@ -87,7 +84,7 @@ as-i32-spec =
     (λ c κs. search needs)
     (λ c κs. search needs)
     (λ c. search needs)
-    sub-result
+    (λ c. negation-fits (c .before .before .as-u64 .result) (c .if2 .taken))
     returns
     returns-2
     (λ c. search needs)

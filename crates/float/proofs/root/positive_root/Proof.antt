@@ -46,17 +46,11 @@ down c h = stays _ _ _ _ (parts c) h
 small : (c : tie.After-root-digits) → s-of c - 26 ≤ 2000
 small c = omega (arith, c .before .even .ensures .1 .high)
 
-add-result-2 : tie.Need-add-result-2
-add-result-2 c = omega (arith, small (c .before .before), up (c .before .before) (c .if1 .taken) .hi)
-
 float-from-bits-result : tie.Need-float-from-bits-result
 float-from-bits-result c = let a = c .before .before in no-nan-bits (N-of a) (q-of a + 1) (s-of a - 26) (up a (c .if1 .taken)) (small a)
 
 returns : tie.Need-returns
 returns c = let a = c .before .before in from-bits (N-of a) (q-of a + 1) (s-of a - 26) (up a (c .if1 .taken)) (small a) ∙ sym (root-is a)
-
-add-result-3 : tie.Need-add-result-3
-add-result-3 c = omega (arith, small (c .before .before), down (c .before .before) (c .if1 .left) .hi)
 
 float-from-bits-result-2 : tie.Need-float-from-bits-result-2
 float-from-bits-result-2 c = let a = c .before .before in no-nan-bits (N-of a) (q-of a) (s-of a - 26) (down a (c .if1 .left)) (small a)
@@ -74,9 +68,9 @@ positive-root-spec =
     (λ c. search needs)
     (λ c. search needs)
     (λ c. search needs)
-    add-result-2
+    (λ c. omega (arith, small (c .before .before), up (c .before .before) (c .if1 .taken) .hi))
     float-from-bits-result
     returns
-    add-result-3
+    (λ c. omega (arith, small (c .before .before), down (c .before .before) (c .if1 .left) .hi))
     float-from-bits-result-2
     returns-2)

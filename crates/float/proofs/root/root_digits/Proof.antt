@@ -12,9 +12,6 @@ Inv-loop m q₀ rest₀ left₀ i₀ q rest left i = State m q rest left i
 abbrev μ-loop : tie.MeasureT-loop
 μ-loop m q₀ rest₀ left₀ i₀ q rest left i = 53 - i
 
-loop-holds : tie.Need-loop-holds Inv-loop μ-loop
-loop-holds c = start (c .args .m) (c .pre)
-
 returns : tie.Need-returns Inv-loop μ-loop
 returns c =
     let i = c .before .before .loop .i in
@@ -42,7 +39,7 @@ root-digits-spec =
     (tie.spec
     Inv-loop
     μ-loop
-    loop-holds
+    (λ c. start (c .args .m) (c .pre))
     (λ c. omega arith)
     (λ c. omega arith)
     (λ c. omega arith)

@@ -24,9 +24,6 @@ module _ (c : tie.After-struct-told3) where
       toZ w64 (ofZ w64 (c .before .before .before .before .before .before .plane-sums .result .squares)) ≡ pos (planeSquares (A .shift) (viewed (A .view) (A .src .now)) (viewed (A .view) (A .den .now)))
   read = again (self (record { sfits = search needs })) .eq ∙ squares
 
-cast-t9 : tie.Need-cast-t9
-cast-t9 c = rw (read c) (tt, held-fits (search needs) (squares c))
-
 returns : tie.Need-returns
 returns c =
     let S = c .before .before .before .before .before .before .before .before .before in
@@ -44,5 +41,5 @@ of-plane-spec =
     (λ c κs. search needs)
     (λ c κs. search needs)
     (λ c κs. search needs)
-    cast-t9
+    (λ c. rw (read c) (tt, held-fits (search needs) (squares c)))
     returns)

@@ -23,15 +23,6 @@ Inv-loop src den upper lower stride sums₀ i₀ i-end sums i = Filled (λ k. no
 abbrev μ-loop : tie.MeasureT-loop
 μ-loop src den upper lower stride sums₀ i₀ i-end sums i = i-end - i
 
-mul-noise-at : tie.Need-mul-noise-at Inv-loop μ-loop
-mul-noise-at c = omega (arith, c .before .before .before .before .pre .0 .inside _ (c .loop-test .taken))
-
-add-noise-at : tie.Need-add-noise-at Inv-loop μ-loop
-add-noise-at c = omega (arith, c .before .before .before .before .pre .0 .inside _ (c .loop-test .taken))
-
-noise-at-requires : tie.Need-noise-at-requires Inv-loop μ-loop
-noise-at-requires c κs = low-at (looser (c .before .before .before .before .pre .0)) (c .loop-test .taken)
-
 mul-noise-at-2 : tie.Need-mul-noise-at-2 Inv-loop μ-loop
 mul-noise-at-2 c = omega (arith, c .before .before .before .before .before .pre .1 .inside _ (c .before .loop-test .taken))
 
@@ -58,9 +49,6 @@ stored c =
     subst (λ (z : ℤ). Is w16 (toZ w16 (ofZ w16 (a .result)) +ℤ toZ w16 (ofZ w16 (b .result))) z) (λ j. a .ensures j +ℤ b .ensures j)
     (two-is (a .result) (b .result) (small (a .ensures) (noise-le (S .pre .0) _ l)) (small (b .ensures) (noise-le (S .pre .1) _ l)))
 
-add-sums : tie.Need-add-sums Inv-loop μ-loop
-add-sums c = fits (stored c)
-
 loop-again : tie.Need-loop-again Inv-loop μ-loop
 loop-again c = fill-turn _ _ _ (c .before .before .before .loop .inv) (c .before .before .loop-test .taken) (again (stored c) .eq)
 
@@ -74,13 +62,13 @@ added-places-spec =
     Inv-loop
     μ-loop
     (λ c. fill-starts _ _)
-    mul-noise-at
-    add-noise-at
-    noise-at-requires
+    (λ c. omega (arith, c .before .before .before .before .pre .0 .inside _ (c .loop-test .taken)))
+    (λ c. omega (arith, c .before .before .before .before .pre .0 .inside _ (c .loop-test .taken)))
+    (λ c κs. low-at (looser (c .before .before .before .before .pre .0)) (c .loop-test .taken))
     mul-noise-at-2
     add-noise-at-2
     noise-at-requires-2
-    add-sums
+    (λ c. fits (stored c))
     (λ c. search needs)
     (λ c. search needs)
     (λ c. search needs)

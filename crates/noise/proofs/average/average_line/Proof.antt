@@ -7,9 +7,6 @@ use Rattle.noise.proofs.Averages.{RowsOf, sums-small, line-count, line-
 use Rattle.noise.proofs.average.average_line.Statement.{statement}
 use Rattle.noise.proofs.average.average_line.Tie as tie
 
-mul-upper : tie.Need-mul-upper
-mul-upper c = let A = c .before .before .before .pre in omega (arith, upper-in A, A .luma .low)
-
 add-held : tie.Need-add-held
 add-held c = let A = c .before .before .before .before .pre in omega (arith, upper-in A, A .luma .low, A .down)
 
@@ -51,7 +48,7 @@ average-line-spec =
     tie.close
     (tie.spec
     (λ c. search needs)
-    mul-upper
+    (λ c. let A = c .before .before .before .pre in omega (arith, upper-in A, A .luma .low))
     add-held
     (λ c κs. search needs)
     mul-added-rows

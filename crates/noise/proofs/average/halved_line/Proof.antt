@@ -22,9 +22,6 @@ Inv-loop sums line₀ w pairs from₀ line from = (w ≡ length sums) × (pairs 
 abbrev μ-loop : tie.MeasureT-loop
 μ-loop sums line₀ w pairs from₀ line from = pairs - from
 
-loop-holds : tie.Need-loop-holds Inv-loop μ-loop
-loop-holds c = (refl, refl, omega arith, fill-starts _ _)
-
 halved-part-requires : tie.Need-halved-part-requires Inv-loop μ-loop
 halved-part-requires c κs =
     let H = c .before .before .loop in
@@ -58,12 +55,6 @@ halved-part-requires-2 c κs =
     let H = c .before .before .loop in
     (c .before .before .before .pre .0, omega arith, omega (arith, H .inv .3 .same), H .inv .3 .front)
 
-sub-a : tie.Need-sub-a Inv-loop μ-loop
-sub-a c = omega (arith, paired (c .before .before) .same)
-
-shared-slice-copy-out-a : tie.Need-shared-slice-copy-out-a Inv-loop μ-loop
-shared-slice-copy-out-a c = omega (arith, paired (c .before .before) .same)
-
 -- what the last column gets
 stored : (c : tie.After-a Inv-loop μ-loop) → let A = c .before .before .before .before .before .before .before .args in
     let z = at (A .sums .now) (length (A .sums .now) - 1) in
@@ -72,20 +63,8 @@ stored c =
     let S = c .before .before .before .before .before .before .before in
     last-is _ (S .pre .0) (length (S .args .sums .now) / 2) (omega (arith, paired (c .before .before .before) .same))
 
-add-line : tie.Need-add-line Inv-loop μ-loop
-add-line c = fits (stored c)
-
-slice-set-from-line : tie.Need-slice-set-from-line Inv-loop μ-loop
-slice-set-from-line c = c .before .if1 .taken
-
-same-length : tie.Need-same-length Inv-loop μ-loop
-same-length c = simp length-set (paired (c .before .before .before) .same)
-
 returns : tie.Need-returns Inv-loop μ-loop
 returns c = fill-ends _ _ (fill-turn _ _ _ (paired (c .before .before .before)) (omega (arith, paired (c .before .before .before) .same)) (again (stored c) .eq)) (omega arith)
-
-same-length-2 : tie.Need-same-length-2 Inv-loop μ-loop
-same-length-2 c = paired (c .before .before) .same
 
 returns-2 : tie.Need-returns-2 Inv-loop μ-loop
 returns-2 c = fill-ends _ _ (paired (c .before .before)) (omega (arith, paired (c .before .before) .same))
@@ -96,7 +75,7 @@ halved-line-spec =
     (tie.spec
     Inv-loop
     μ-loop
-    loop-holds
+    (λ c. (refl, refl, omega arith, fill-starts _ _))
     (λ c. search needs)
     halved-part-requires
     (λ c. search needs)
@@ -104,13 +83,13 @@ halved-line-spec =
     loop-again
     (λ c. search needs)
     halved-part-requires-2
-    sub-a
+    (λ c. omega (arith, paired (c .before .before) .same))
     (λ c. search needs)
-    shared-slice-copy-out-a
-    add-line
+    (λ c. omega (arith, paired (c .before .before) .same))
+    (λ c. fits (stored c))
     (λ c. search needs)
-    slice-set-from-line
-    same-length
+    (λ c. c .before .if1 .taken)
+    (λ c. simp length-set (paired (c .before .before .before) .same))
     returns
-    same-length-2
+    (λ c. paired (c .before .before) .same)
     returns-2)

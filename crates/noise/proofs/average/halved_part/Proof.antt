@@ -21,17 +21,11 @@ Inv-loop sums from n line₀ k₀ k-end line k = (k ≤ from + n) × Filled (qua
 abbrev μ-loop : tie.MeasureT-loop
 μ-loop sums from n line₀ k₀ k-end line k = k-end - k
 
-loop-holds : tie.Need-loop-holds Inv-loop μ-loop
-loop-holds c = (omega arith, record { count = omega arith; same = refl; front = c .pre .3 })
-
 -- what a turn stores
 stored : (c : tie.After-line2 Inv-loop μ-loop) → let A = c .before .before .before .before .args in
     let k = c .before .before .before .loop .k in
     Is w16 (toZ w16 (ofZ w16 (at (A .sums .now) (k * 2))) +ℤ toZ w16 (ofZ w16 (at (A .sums .now) (k * 2 + 1)))) (quartered 1 (A .sums .now) k)
 stored c = even-is _ (c .before .before .before .before .pre .0) _ (omega arith)
-
-add-line-2 : tie.Need-add-line-2 Inv-loop μ-loop
-add-line-2 c = fits (stored c)
 
 loop-again : tie.Need-loop-again Inv-loop μ-loop
 loop-again c = (omega arith, fill-turn _ _ _ (c .before .before .before .loop .inv .1) (omega arith) (again (stored c) .eq))
@@ -48,7 +42,7 @@ halved-part-spec =
     Inv-loop
     μ-loop
     (λ c. search needs)
-    loop-holds
+    (λ c. (omega arith, record { count = omega arith; same = refl; front = c .pre .3 }))
     (λ c. search needs)
     (λ c. search needs)
     (λ c. omega arith)
@@ -56,7 +50,7 @@ halved-part-spec =
     (λ c. search needs)
     (λ c. search needs)
     (λ c. omega arith)
-    add-line-2
+    (λ c. fits (stored c))
     (λ c. search needs)
     (λ c. search needs)
     (λ c. search needs)

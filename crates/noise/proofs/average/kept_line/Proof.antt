@@ -24,9 +24,6 @@ stored : (c : tie.After-a Inv-loop μ-loop) → let z = at (c .before .before .b
     Is w16 (toZ w16 (ofZ w16 z) +ℤ toZ w16 (ofZ w16 z)) (quartered 0 (c .before .before .before .args .sums .now) (c .before .before .loop .k))
 stored c = kept-is _ (c .before .before .before .pre .0) (c .before .before .loop .k) (omega arith)
 
-add-line : tie.Need-add-line Inv-loop μ-loop
-add-line c = fits (stored c)
-
 loop-again : tie.Need-loop-again Inv-loop μ-loop
 loop-again c = fill-turn _ _ _ (c .before .before .loop .inv) (search needs) (again (stored c) .eq)
 
@@ -42,7 +39,7 @@ kept-line-spec =
     (λ c. fill-starts _ _)
     (λ c. search needs)
     (λ c. omega arith)
-    add-line
+    (λ c. fits (stored c))
     (λ c. search needs)
     (λ c. search needs)
     (λ c. search needs)

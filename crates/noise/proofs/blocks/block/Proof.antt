@@ -39,17 +39,11 @@ multiplied : (c : tie.After-y Inv-loop μ-loop) → let A = c .before .before .b
     Is w32 (wide (at (A .p .now) k) *ℤ wide (at (A .q .now) k)) (product (A .p .now) (A .q .now) k)
 multiplied c = product-is (c .before .before .before .before .pre .0) (omega arith) _ (omega arith) (record { sfits = c .before .x .given }) (record { sfits = c .y .given })
 
-mul-sum : tie.Need-mul-sum Inv-loop μ-loop
-mul-sum c = fits (multiplied c)
-
 added : (c : tie.After-y Inv-loop μ-loop) → let A = c .before .before .before .before .args in
     let H = c .before .before .before .loop in
     let k = A .from + H .i in
     Is w32 (toZ w32 (H .sum) +ℤ toZ w32 (ofZ w32 (wide (at (A .p .now) k) *ℤ wide (at (A .q .now) k)))) (span (product (A .p .now) (A .q .now)) (A .from) (H .i + 1))
 added c = block-turn (c .before .before .before .before .pre .0) (omega arith) _ _ (omega arith) (omega arith) (c .before .before .before .loop .inv .1) (again (multiplied c) .eq)
-
-add-sum : tie.Need-add-sum Inv-loop μ-loop
-add-sum c = fits (added c)
 
 loop-again : tie.Need-loop-again Inv-loop μ-loop
 loop-again c = (omega arith, again (added c) .eq)
@@ -72,8 +66,8 @@ block-spec =
     (λ c. search needs)
     (λ c. search needs)
     cast-y
-    mul-sum
-    add-sum
+    (λ c. fits (multiplied c))
+    (λ c. fits (added c))
     (λ c. search needs)
     (λ c. search needs)
     loop-again

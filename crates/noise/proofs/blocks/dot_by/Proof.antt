@@ -24,12 +24,6 @@ loop-holds : tie.Need-loop-holds Inv-loop μ-loop
 unfolding total
 loop-holds c = (refl, omega arith, refl)
 
-block-requires : tie.Need-block-requires Inv-loop μ-loop
-block-requires c κs = (c .before .before .pre .0, omega arith)
-
-cast-part : tie.Need-cast-part Inv-loop μ-loop
-cast-part c = fits (wide64 (c .block .result) (record { sfits = c .block .ok }))
-
 -- the sum with a block more
 added : (c : tie.After-block Inv-loop μ-loop) → let A = c .before .before .before .args in
     let H = c .before .before .loop in
@@ -39,17 +33,8 @@ added c =
     let H = c .before .before .loop in
     line-turn (S .pre .0) (S .pre .1) (H .from) (S .args .size) (c .block .result) (omega arith) (H .inv .2) (record { sfits = c .block .ok }) (c .block .ensures)
 
-add-sum : tie.Need-add-sum Inv-loop μ-loop
-add-sum c = fits (added c)
-
 loop-again : tie.Need-loop-again Inv-loop μ-loop
 loop-again c = (refl, omega arith, again (added c) .eq)
-
-block-requires-2 : tie.Need-block-requires-2 Inv-loop μ-loop
-block-requires-2 c κs = (fewer _ (omega arith) (c .before .before .pre .0), omega arith)
-
-cast-rest : tie.Need-cast-rest Inv-loop μ-loop
-cast-rest c = fits (wide64 (c .block2 .result) (record { sfits = c .block2 .ok }))
 
 -- and with what is left
 finished : (c : tie.After-block2 Inv-loop μ-loop) → let A = c .before .before .before .args in
@@ -60,9 +45,6 @@ finished c =
     let n = length (S .args .p .now) in
     let e : H .from + (n - H .from) ≡ n = omega arith in
     rw e at (line-turn (S .pre .0) (S .pre .1) (H .from) (n - H .from) (c .block2 .result) (omega arith) (H .inv .2) (record { sfits = c .block2 .ok }) (c .block2 .ensures))
-
-add-result : tie.Need-add-result Inv-loop μ-loop
-add-result c = fits (finished c)
 
 returns : tie.Need-returns Inv-loop μ-loop
 returns c = again (finished c) .eq
@@ -75,14 +57,14 @@ dot-by-spec =
     μ-loop
     loop-holds
     (λ c. search needs)
-    block-requires
-    cast-part
-    add-sum
+    (λ c κs. (c .before .before .pre .0, omega arith))
+    (λ c. fits (wide64 (c .block .result) (record { sfits = c .block .ok })))
+    (λ c. fits (added c))
     (λ c. search needs)
     (λ c. search needs)
     loop-again
     (λ c. search needs)
-    block-requires-2
-    cast-rest
-    add-result
+    (λ c κs. (fewer _ (omega arith) (c .before .before .pre .0), omega arith))
+    (λ c. fits (wide64 (c .block2 .result) (record { sfits = c .block2 .ok })))
+    (λ c. fits (finished c))
     returns)

@@ -5,9 +5,6 @@ use Rattle.noise.proofs.Lines.{noise-is}
 use Rattle.noise.proofs.line.noise_at.Statement.{statement}
 use Rattle.noise.proofs.line.noise_at.Tie as tie
 
-sub-result : tie.Need-sub-result
-sub-result c = fits (noise-is (c .before .before .pre))
-
 returns : tie.Need-returns
 returns c = again (noise-is (c .before .before .pre)) .eq
 
@@ -21,5 +18,5 @@ noise-at-spec =
     (λ c. search needs)
     (λ c. search needs)
     (λ c. search needs)
-    sub-result
+    (λ c. fits (noise-is (c .before .before .pre)))
     returns)

@@ -21,15 +21,6 @@ abbrev μ-loop : tie.MeasureT-loop
 here : (c : tie.In-loop Inv-loop μ-loop) → let A = c .before .before .before .before .args in LowAt (2 ^ 15) (A .src .now) (A .den .now) (A .start + c .before .loop .i * A .stride)
 here c = low-at (c .before .before .before .before .pre) (c .loop-test .taken)
 
-mul-noise-at : tie.Need-mul-noise-at Inv-loop μ-loop
-mul-noise-at c = omega (arith, here c .in-source)
-
-add-noise-at : tie.Need-add-noise-at Inv-loop μ-loop
-add-noise-at c = omega (arith, here c .in-source)
-
-noise-at-requires : tie.Need-noise-at-requires Inv-loop μ-loop
-noise-at-requires c κs = here c
-
 loop-again : tie.Need-loop-again Inv-loop μ-loop
 loop-again c =
     let n = c .noise-at in
@@ -45,9 +36,9 @@ noise-places-spec =
     Inv-loop
     μ-loop
     (λ c. fill-starts _ _)
-    mul-noise-at
-    add-noise-at
-    noise-at-requires
+    (λ c. omega (arith, here c .in-source))
+    (λ c. omega (arith, here c .in-source))
+    (λ c κs. here c)
     (λ c. search needs)
     (λ c. search needs)
     (λ c. search needs)

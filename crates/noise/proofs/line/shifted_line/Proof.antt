@@ -15,9 +15,6 @@ Inv-loop line shift out₀ i₀ i-end out i = Filled (λ k. shifted shift (at li
 abbrev μ-loop : tie.MeasureT-loop
 μ-loop line shift out₀ i₀ i-end out i = i-end - i
 
-cast-out : tie.Need-cast-out Inv-loop μ-loop
-cast-out c = small-fits (c .before .before .before .pre .0)
-
 loop-again : tie.Need-loop-again Inv-loop μ-loop
 loop-again c =
     let A = c .before .before .before .args in
@@ -36,7 +33,7 @@ shifted-line-spec =
     (λ c. fill-starts _ _)
     (λ c. search needs)
     (λ c. search needs)
-    cast-out
+    (λ c. small-fits (c .before .before .before .pre .0))
     (λ c. search needs)
     (λ c. search needs)
     (λ c. search needs)

@@ -14,9 +14,6 @@ use Rattle.noise.proofs.NoiseLines.{lines, is-noise}
 use Rattle.noise.proofs.rows.row_pair.Statement.{statement}
 use Rattle.noise.proofs.rows.row_pair.Tie as tie
 
-noise-line-requires : tie.Need-noise-line-requires
-noise-line-requires c κs = looser (c .before .before .before .before .before .pre .0)
-
 noise-line-requires-2 : tie.Need-noise-line-requires-2
 noise-line-requires-2 c κs =
     let S = c .before .before .before .before .before .before .before .before in
@@ -61,7 +58,7 @@ pub row-pair-spec : {M : Type 1} → statement M
 row-pair-spec =
     tie.close
     (tie.spec
-    noise-line-requires
+    (λ c κs. looser (c .before .before .before .before .before .pre .0))
     noise-line-requires-2
     dot-requires
     dot-requires-2

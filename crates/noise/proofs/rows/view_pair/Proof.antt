@@ -17,9 +17,6 @@ Inv-loop src0 den0 src1 den1 view p₀ q₀ total₀ r₀ r-end p q total r =
 abbrev μ-loop : tie.MeasureT-loop
 μ-loop src0 den0 src1 den1 view p₀ q₀ total₀ r₀ r-end p q total r = view .height - r
 
-loop-holds : tie.Need-loop-holds Inv-loop μ-loop
-loop-holds c = (omega arith, search needs, search needs, cross-none)
-
 mul-start : tie.Need-mul-start Inv-loop μ-loop
 mul-start c = omega (arith, c .before .before .before .before .before .before .before .pre .0 .rows (c .before .before .loop .r) (search needs) .begins)
 
@@ -60,7 +57,7 @@ view-pair-spec =
     (tie.spec
     Inv-loop
     μ-loop
-    loop-holds
+    (λ c. (omega arith, search needs, search needs, cross-none))
     mul-start
     add-start
     row-pair-requires

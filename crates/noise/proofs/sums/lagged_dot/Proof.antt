@@ -6,12 +6,6 @@ use Rattle.noise.proofs.NoiseLines.{front-length, lagged-lines, lagged-
 use Rattle.noise.proofs.sums.lagged_dot.Statement.{statement}
 use Rattle.noise.proofs.sums.lagged_dot.Tie as tie
 
-slice-aggregate-dot : tie.Need-slice-aggregate-dot
-slice-aggregate-dot c = sym (front-length (c .before .pre .0) (c .before .pre .1))
-
-dot-requires : tie.Need-dot-requires
-dot-requires c κs = lagged-lines (c .before .before .pre .0) (c .before .before .pre .1)
-
 returns : tie.Need-returns
 returns c =
     let S = c .before .before .before in
@@ -22,10 +16,10 @@ lagged-dot-spec =
     tie.close
     (tie.spec
     (λ c. search needs)
-    slice-aggregate-dot
+    (λ c. sym (front-length (c .before .pre .0) (c .before .pre .1)))
     (λ c. search needs)
     (λ c. search needs)
     (λ c. search needs)
     (λ c. search needs)
-    dot-requires
+    (λ c κs. lagged-lines (c .before .before .pre .0) (c .before .before .pre .1))
     returns)

@@ -17,9 +17,6 @@ Inv-loop src den view lag shift p₀ q₀ total₀ r₀ r-end p q total r =
 abbrev μ-loop : tie.MeasureT-loop
 μ-loop src den view lag shift p₀ q₀ total₀ r₀ r-end p q total r = view .height - r
 
-loop-holds : tie.Need-loop-holds Inv-loop μ-loop
-loop-holds c = (omega arith, search needs, search needs, sums-none)
-
 mul-start : tie.Need-mul-start Inv-loop μ-loop
 mul-start c = omega (arith, c .before .before .before .before .before .pre .0 .rows (c .before .before .loop .r) (search needs) .begins)
 
@@ -59,7 +56,7 @@ view-sums-spec =
     (tie.spec
     Inv-loop
     μ-loop
-    loop-holds
+    (λ c. (omega arith, search needs, search needs, sums-none))
     mul-start
     add-start
     row-sums-requires

@@ -16,12 +16,6 @@ Inv-loop sums₀ tables starts rows r k z₀ z-end sums z = (z-end ≡ starts * 
 abbrev μ-loop : tie.MeasureT-loop
 μ-loop sums₀ tables starts rows r k z₀ z-end sums z = z-end - z
 
-mul-z-end : tie.Need-mul-z-end Inv-loop μ-loop
-mul-z-end c = omega (arith, blocks-le (c .pre))
-
-loop-holds : tie.Need-loop-holds Inv-loop μ-loop
-loop-holds c = (refl, omega arith, passing-starts (c .args .tables .now) _ _ _ _ _)
-
 div-apart : tie.Need-div-apart Inv-loop μ-loop
 div-apart c = positive (c .before .before .args .starts) (c .before .loop .z) (c .loop-test .taken)
 
@@ -30,33 +24,6 @@ in-sums c = sums-end (c .before .before .pre) (c .before .loop .z) (c .loop-test
 
 in-tables : (c : tie.In-loop Inv-loop μ-loop) → let A = c .before .before .args in c .before .loop .z / A .starts * A .k + A .k ≤ length (A .tables .now)
 in-tables c = tables-end (c .before .before .pre) (c .before .loop .z) (c .loop-test .taken)
-
-mul-from : tie.Need-mul-from Inv-loop μ-loop
-mul-from c = omega (arith, in-sums c)
-
-add-to : tie.Need-add-to Inv-loop μ-loop
-add-to c = omega (arith, in-sums c)
-
-mul-first : tie.Need-mul-first Inv-loop μ-loop
-mul-first c = omega (arith, in-tables c)
-
-add-last : tie.Need-add-last Inv-loop μ-loop
-add-last c = omega (arith, in-tables c)
-
-mul-add-passed : tie.Need-mul-add-passed Inv-loop μ-loop
-mul-add-passed c = omega (arith, in-sums c)
-
-part-add-passed-end : tie.Need-part-add-passed-end Inv-loop μ-loop
-part-add-passed-end c = omega (arith, in-sums c, c .before .loop .inv .2 .same)
-
-mul-add-passed-2 : tie.Need-mul-add-passed-2 Inv-loop μ-loop
-mul-add-passed-2 c = omega (arith, in-tables (c .before))
-
-part-add-passed-end-2 : tie.Need-part-add-passed-end-2 Inv-loop μ-loop
-part-add-passed-end-2 c = in-tables (c .before)
-
-rem-add-passed : tie.Need-rem-add-passed Inv-loop μ-loop
-rem-add-passed c = div-apart (c .before .before)
 
 add-add-passed : tie.Need-add-add-passed Inv-loop μ-loop
 add-add-passed c = let T = c .before .before in omega (arith, digits-le (T .before .before .args .starts) (T .before .loop .z) (T .loop-test .taken), blocks-le (T .before .before .pre))
@@ -67,9 +34,6 @@ add-passed-requires c κs =
     let S = T .before .before in
     let H = T .before .loop in
     (passing-same (S .args .tables .now) _ _ _ _ _ (S .pre) (H .z) (H .inv .2) (T .loop-test .taken), passing-addable (S .args .tables .now) _ _ _ _ _ (S .pre) (H .z) (H .inv .2) (T .loop-test .taken))
-
-add-z : tie.Need-add-z Inv-loop μ-loop
-add-z c = omega (arith, blocks-le (c .before .before .before .before .before .before .pre))
 
 loop-again : tie.Need-loop-again Inv-loop μ-loop
 loop-again c =
@@ -85,25 +49,25 @@ add-row-spec =
     (tie.spec
     Inv-loop
     μ-loop
-    mul-z-end
-    loop-holds
+    (λ c. omega (arith, blocks-le (c .pre)))
+    (λ c. (refl, omega arith, passing-starts (c .args .tables .now) _ _ _ _ _))
     div-apart
-    mul-from
-    add-to
-    mul-first
-    add-last
-    mul-add-passed
+    (λ c. omega (arith, in-sums c))
+    (λ c. omega (arith, in-sums c))
+    (λ c. omega (arith, in-tables c))
+    (λ c. omega (arith, in-tables c))
+    (λ c. omega (arith, in-sums c))
     (λ c. search needs)
     (λ c. search needs)
-    part-add-passed-end
-    mul-add-passed-2
+    (λ c. omega (arith, in-sums c, c .before .loop .inv .2 .same))
+    (λ c. omega (arith, in-tables (c .before)))
     (λ c. search needs)
     (λ c. search needs)
-    part-add-passed-end-2
-    rem-add-passed
+    (λ c. in-tables (c .before))
+    (λ c. div-apart (c .before .before))
     add-add-passed
     add-passed-requires
-    add-z
+    (λ c. omega (arith, blocks-le (c .before .before .before .before .before .before .pre)))
     (λ c. search needs)
     loop-again
     (λ c. search needs)

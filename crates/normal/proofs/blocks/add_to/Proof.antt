@@ -19,9 +19,6 @@ Inv-loop sums₀ more i₀ i-end sums i = (i-end ≡ length sums₀) × Reached 
 abbrev μ-loop : tie.MeasureT-loop
 μ-loop sums₀ more i₀ i-end sums i = i-end - i
 
-loop-holds : tie.Need-loop-holds Inv-loop μ-loop
-loop-holds c = (refl, reached-starts _ _)
-
 -- a turn's sum
 added : (c : tie.After-y Inv-loop μ-loop) → let A = c .before .before .before .before .args in
     let H = c .before .before .before .loop in
@@ -30,9 +27,6 @@ added c =
     let S = c .before .before .before .before in
     let H = c .before .before .before .loop in
     added-is (S .args .sums .now) (at (S .args .more .now)) (H .i) (H .inv .1) (record { sfits = c .before .x .given }) (kept (record { sfits = c .y .given }) refl) (S .pre .small (H .i) (search needs))
-
-add-sums : tie.Need-add-sums Inv-loop μ-loop
-add-sums c = fits (added c)
 
 loop-again : tie.Need-loop-again Inv-loop μ-loop
 loop-again c = (refl, reached-turn _ _ (c .before .before .before .loop .i) (c .before .before .before .loop .inv .1) _ (search needs) (again (added c) .eq))
@@ -46,12 +40,12 @@ add-to-spec =
     (tie.spec
     Inv-loop
     μ-loop
-    loop-holds
+    (λ c. (refl, reached-starts _ _))
     (λ c. search needs)
     (λ c. search needs)
     (λ c. search needs)
     (λ c. search needs)
-    add-sums
+    (λ c. fits (added c))
     (λ c. search needs)
     (λ c. search needs)
     (λ c. search needs)

@@ -15,9 +15,6 @@ Inv-loop sums₀ i₀ i-end sums i = (i-end ≡ length sums₀) × Filled (λ k.
 abbrev μ-loop : tie.MeasureT-loop
 μ-loop sums₀ i₀ i-end sums i = i-end - i
 
-loop-holds : tie.Need-loop-holds Inv-loop μ-loop
-loop-holds c = (refl, fill-starts _ _)
-
 loop-again : tie.Need-loop-again Inv-loop μ-loop
 loop-again c = (refl, fill-turn _ _ _ (c .before .loop .inv .1) (search needs) refl)
 
@@ -30,7 +27,7 @@ clear-spec =
     (tie.spec
     Inv-loop
     μ-loop
-    loop-holds
+    (λ c. (refl, fill-starts _ _))
     (λ c. search needs)
     (λ c. search needs)
     (λ c. search needs)

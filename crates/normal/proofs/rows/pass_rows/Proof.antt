@@ -16,9 +16,6 @@ Inv-loop src den view rows starts n side up₀ lo₀ tables₀ sums₀ k r₀ r-
 abbrev μ-loop : tie.MeasureT-loop
 μ-loop src den view rows starts n side up₀ lo₀ tables₀ sums₀ k r₀ r-end up lo tables sums r = view .height - r
 
-mul-k : tie.Need-mul-k Inv-loop μ-loop
-mul-k c = omega (arith, side-few (c .before .before .pre .plot))
-
 loop-holds : tie.Need-loop-holds Inv-loop μ-loop
 loop-holds c = let P = c .before .before .pre in (refl, P .up-length, P .lo-length, P .tables-length, omega arith, held-starts _ _ _ _ _ (P .nothing))
 
@@ -66,7 +63,7 @@ pass-rows-spec =
     (tie.spec
     Inv-loop
     μ-loop
-    mul-k
+    (λ c. omega (arith, side-few (c .before .before .pre .plot)))
     loop-holds
     row-tables-requires
     add-row-requires

@@ -18,9 +18,6 @@ Inv-loop src den view r starts n side up₀ lo tables₀ k end d₀ up tables d 
 abbrev μ-loop : tie.MeasureT-loop
 μ-loop src den view r starts n side up₀ lo tables₀ k end d₀ up tables d = end - d
 
-mul-k : tie.Need-mul-k Inv-loop μ-loop
-mul-k c = omega (arith, side-few (c .before .before .pre .plot))
-
 noise-row-requires : tie.Need-noise-row-requires Inv-loop μ-loop
 noise-row-requires c κs = let S = c .before .before .before .before in rw (S .pre .lo-length) (S .pre .plot .seen .rows (S .args .r) (S .pre .row))
 
@@ -42,18 +39,6 @@ above c = rw (c .before .loop .inv .1) at (c .loop-test .taken)
 in-tables : (c : tie.In-loop Inv-loop μ-loop) → let A = c .before .before .before .before .before .before .before .before .args in
     c .before .loop .d * (A .side * A .side) + A .side * A .side ≤ length (c .before .loop .tables)
 in-tables c = table-end (c .before .loop .inv .4) (above c)
-
-mul-from : tie.Need-mul-from Inv-loop μ-loop
-mul-from c = omega (arith, in-tables c)
-
-add-to : tie.Need-add-to Inv-loop μ-loop
-add-to c = omega (arith, in-tables c)
-
-mul-pair-table : tie.Need-mul-pair-table Inv-loop μ-loop
-mul-pair-table c = omega (arith, in-tables (c .before .before))
-
-part-pair-table-end : tie.Need-part-pair-table-end Inv-loop μ-loop
-part-pair-table-end c = omega (arith, in-tables (c .before .before))
 
 pair-table-requires : tie.Need-pair-table-requires Inv-loop μ-loop
 pair-table-requires c κs =
@@ -95,17 +80,17 @@ row-tables-spec =
     (tie.spec
     Inv-loop
     μ-loop
-    mul-k
+    (λ c. omega (arith, side-few (c .before .before .pre .plot)))
     (λ c. search needs)
     (λ c κs. search needs)
     noise-row-requires
     loop-holds
-    mul-from
-    add-to
-    mul-pair-table
+    (λ c. omega (arith, in-tables c))
+    (λ c. omega (arith, in-tables c))
+    (λ c. omega (arith, in-tables (c .before .before)))
     (λ c. search needs)
     (λ c. search needs)
-    part-pair-table-end
+    (λ c. omega (arith, in-tables (c .before .before)))
     pair-table-requires
     add-d
     (λ c. search needs)

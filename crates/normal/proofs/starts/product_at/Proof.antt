@@ -19,9 +19,6 @@ multiplied c =
     let A = c .before .before .args in
     product64 (at (A .up .now) (A .a)) (at (A .lo .now) (A .b)) (record { sfits = c .before .x .given }) (record { sfits = c .y .given })
 
-mul-result : tie.Need-mul-result
-mul-result c = fits (multiplied c)
-
 returns : tie.Need-returns
 returns c = again (multiplied c) .eq
 
@@ -35,5 +32,5 @@ product-at-spec =
     (λ c. search needs)
     (λ c. search needs)
     cast-y
-    mul-result
+    (λ c. fits (multiplied c))
     returns)

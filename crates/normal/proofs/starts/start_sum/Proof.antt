@@ -6,9 +6,6 @@ use borrow.Author.Needs.{needs}
 use Rattle.normal.proofs.starts.start_sum.Statement.{statement}
 use Rattle.normal.proofs.starts.start_sum.Tie as tie
 
-dot-requires : tie.Need-dot-requires
-dot-requires c κs = overlap-lines (c .before .before .pre) 32 (lit< tt)
-
 returns : tie.Need-returns
 returns c = kept (record { sfits = c .dot .ok }) (c .dot .ensures ∙ overlap-sum (c .before .before .before .pre))
 
@@ -26,5 +23,5 @@ start-sum-spec =
     (λ c. search needs)
     (λ c. search needs)
     (λ c. search needs)
-    dot-requires
+    (λ c κs. overlap-lines (c .before .before .pre) 32 (lit< tt))
     returns)

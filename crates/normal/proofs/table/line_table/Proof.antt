@@ -54,18 +54,6 @@ next-sum-requires c κs =
 place : (c : tie.In-loop2 Inv-loop2 μ-loop2 Inv-loop μ-loop) → c .before .before .before .loop .a * c .before .before .before .before .args .side + c .before .loop2 .b < length (c .before .loop2 .table)
 place c = lt-of-lt-of-le (digits-lt (c .before .before .loop-test .taken) (c .loop2-test .taken)) (le-of-eq (sym (c .before .loop2 .inv .1)))
 
-mul-sum : tie.Need-mul-sum Inv-loop2 μ-loop2 Inv-loop μ-loop
-mul-sum c = omega (arith, place (c .before .before))
-
-add-sum : tie.Need-add-sum Inv-loop2 μ-loop2 Inv-loop μ-loop
-add-sum c = omega (arith, place (c .before .before))
-
-mul-sum-2 : tie.Need-mul-sum-2 Inv-loop2 μ-loop2 Inv-loop μ-loop
-mul-sum-2 c = omega (arith, place (c .before .before))
-
-slice-set-from-sum : tie.Need-slice-set-from-sum Inv-loop2 μ-loop2 Inv-loop μ-loop
-slice-set-from-sum c = place (c .before .before)
-
 loop2-again : tie.Need-loop2-again Inv-loop2 μ-loop2 Inv-loop μ-loop
 loop2-again c =
     let C = c .before .before in
@@ -104,10 +92,10 @@ line-table-spec =
     loop-holds
     loop2-holds
     next-sum-requires
-    mul-sum
-    add-sum
-    mul-sum-2
-    slice-set-from-sum
+    (λ c. omega (arith, place (c .before .before)))
+    (λ c. omega (arith, place (c .before .before)))
+    (λ c. omega (arith, place (c .before .before)))
+    (λ c. place (c .before .before))
     (λ c. search needs)
     (λ c. search needs)
     loop2-again

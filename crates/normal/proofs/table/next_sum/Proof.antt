@@ -19,12 +19,6 @@ mirrored c =
     let S = c .before .before .before in
     mirror-in (S .pre) (omega arith) (c .before .if2 .taken)
 
-mul-result : tie.Need-mul-result
-mul-result c = omega (arith, mirrored c)
-
-shared-slice-copy-out-result : tie.Need-shared-slice-copy-out-result
-shared-slice-copy-out-result c = mirrored c
-
 returns-2 : tie.Need-returns-2
 returns-2 c =
     let S = c .before .before .before .before in
@@ -40,18 +34,6 @@ earlier : (c : tie.Else2) → let A = c .before .before .args in (A .a - 1) * A 
 earlier c =
     let S = c .before .before in
     back-in (S .pre) (omega arith) (omega arith)
-
-mul-before : tie.Need-mul-before
-mul-before c = omega (arith, earlier c)
-
-add-before : tie.Need-add-before
-add-before c = omega (arith, earlier c)
-
-mul-before-2 : tie.Need-mul-before-2
-mul-before-2 c = omega (arith, earlier c)
-
-shared-slice-copy-out-before : tie.Need-shared-slice-copy-out-before
-shared-slice-copy-out-before c = earlier c
 
 slid-sum-requires : tie.Need-slid-sum-requires
 slid-sum-requires c κs =
@@ -75,17 +57,17 @@ next-sum-spec =
     (tie.spec
     start-sum-requires
     (λ c. search needs)
-    mul-result
-    shared-slice-copy-out-result
+    (λ c. omega (arith, mirrored c))
+    (λ c. mirrored c)
     returns-2
     start-sum-requires-2
     (λ c. search needs)
     (λ c. search needs)
-    mul-before
+    (λ c. omega (arith, earlier c))
     (λ c. search needs)
-    add-before
-    mul-before-2
-    shared-slice-copy-out-before
+    (λ c. omega (arith, earlier c))
+    (λ c. omega (arith, earlier c))
+    (λ c. earlier c)
     (λ c. search needs)
     (λ c. search needs)
     slid-sum-requires

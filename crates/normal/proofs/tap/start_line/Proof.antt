@@ -16,12 +16,6 @@ Inv-loop line averages n lag out₀ c₀ c-end out c = (c-end ≡ length out₀)
 abbrev μ-loop : tie.MeasureT-loop
 μ-loop line averages n lag out₀ c₀ c-end out c = c-end - c
 
-loop-holds : tie.Need-loop-holds Inv-loop μ-loop
-loop-holds c = (refl, fill-starts _ _)
-
-start-sum-requires : tie.Need-start-sum-requires Inv-loop μ-loop
-start-sum-requires c κs = c .before .before .pre (c .before .loop .c) (search needs)
-
 loop-again : tie.Need-loop-again Inv-loop μ-loop
 loop-again c = (refl, fill-turn _ _ _ (c .before .before .loop .inv .1) (search needs) (kept (record { sfits = c .start-sum .ok }) (c .start-sum .ensures)))
 
@@ -34,8 +28,8 @@ start-line-spec =
     (tie.spec
     Inv-loop
     μ-loop
-    loop-holds
-    start-sum-requires
+    (λ c. (refl, fill-starts _ _))
+    (λ c κs. c .before .before .pre (c .before .loop .c) (search needs))
     (λ c. search needs)
     (λ c. search needs)
     (λ c. search needs)

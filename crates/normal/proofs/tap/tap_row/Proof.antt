@@ -74,12 +74,6 @@ row-below y u lag h k l = omega arith
 mul-first : tie.Need-mul-first Inv-loop μ-loop
 mul-first c = few (c .before .before .before .before .before .pre .window .few) (first-in (c .before .loop .inv .3) (row-in c))
 
-sub-fewer : tie.Need-sub-fewer Inv-loop μ-loop
-sub-fewer c = begins c
-
-add-end : tie.Need-add-end Inv-loop μ-loop
-add-end c = few (c .before .before .before .before .before .before .pre .window .few) (ends c)
-
 add-noise-row : tie.Need-add-noise-row Inv-loop μ-loop
 add-noise-row c = let P = c .before .before .before .before .before .before .pre in in-plane _ _ _ _ (P .inside) (P .seen .low) (row-in (c .before))
 
@@ -137,9 +131,9 @@ tap-row-spec =
     (λ c. search needs)
     loop-holds
     mul-first
-    sub-fewer
+    (λ c. begins c)
     (λ c κs. search needs)
-    add-end
+    (λ c. few (c .before .before .before .before .before .before .pre .window .few) (ends c))
     add-noise-row
     noise-row-requires
     mul-start-line

@@ -44,20 +44,8 @@ entry c = c .before .before .before .before .before .before .before
 abbrev start : tie.In-loop Inv-loop μ-loop → tie.Start Inv-loop μ-loop
 start T = entry (T .before .before .before .before)
 
-mul-n : tie.Need-mul-n Inv-loop μ-loop
-mul-n c = double (entry c .pre .window .few)
-
-sub-n : tie.Need-sub-n Inv-loop μ-loop
-sub-n c = entry (c .before) .pre .window .columns
-
-sub-rows : tie.Need-sub-rows Inv-loop μ-loop
-sub-rows c = entry (c .before .before) .pre .window .rows
-
 loop-holds : tie.Need-loop-holds Inv-loop μ-loop
 loop-holds c = let P = entry (c .before .before) .pre in (P .sums-length, P .averages-length, P .line-length, P .row-length, zero-le, held-none P)
-
-add-average-squares : tie.Need-add-average-squares Inv-loop μ-loop
-add-average-squares c = in-rows _ _ _ (c .loop-test .taken) (start c .pre .frame .cb .low)
 
 average-squares-requires : tie.Need-average-squares-requires Inv-loop μ-loop
 average-squares-requires c κs =
@@ -74,9 +62,6 @@ squared : (c : tie.After-average-squares Inv-loop μ-loop) → let A = start (av
 squared c =
     let T = averaged-in c in
     squares-turn (start T .pre) (T .before .loop .r) (T .loop-test .taken) (c .average-squares .result) (T .before .loop .inv .5 .squares-are) (c .average-squares .ensures .squares-are)
-
-add-squares : tie.Need-add-squares Inv-loop μ-loop
-add-squares c = fits (squared (c .before .before))
 
 -- ---- both components
 abbrev blue-after : tie.After-add-taps-arg4 Inv-loop μ-loop → tie.After-average-squares Inv-loop μ-loop
@@ -104,12 +89,6 @@ add-taps-requires-2 c κs =
 -- ---- the turn's end
 abbrev turn : tie.After-crtaps Inv-loop μ-loop → tie.In-loop Inv-loop μ-loop
 turn c = averaged-in (blue-after (red-after (c .before .before .before .before) .before))
-
-add-r : tie.Need-add-r Inv-loop μ-loop
-add-r c = one-more _ _ _ (turn c .loop-test .taken) (start (turn c) .pre .frame .cb .low)
-
-loop-less : tie.Need-loop-less Inv-loop μ-loop
-loop-less c = falls _ _ (turn c .loop-test .taken)
 
 loop-again : tie.Need-loop-again Inv-loop μ-loop
 loop-again c =
@@ -141,24 +120,6 @@ loop-again c =
 abbrev entered : tie.After-loop Inv-loop μ-loop → tie.Start Inv-loop μ-loop
 entered c = entry (c .before .before .before .before)
 
-same-length : tie.Need-same-length Inv-loop μ-loop
-same-length c = c .before .loop .inv .0 ∙ sym (entered c .pre .sums-length)
-
-same-length-2 : tie.Need-same-length-2 Inv-loop μ-loop
-same-length-2 c = c .before .loop .inv .1 ∙ sym (entered c .pre .averages-length)
-
-same-length-3 : tie.Need-same-length-3 Inv-loop μ-loop
-same-length-3 c = c .before .loop .inv .2 ∙ sym (entered c .pre .line-length)
-
-same-length-4 : tie.Need-same-length-4 Inv-loop μ-loop
-same-length-4 c = c .before .loop .inv .3 ∙ sym (entered c .pre .row-length)
-
-same-length-5 : tie.Need-same-length-5 Inv-loop μ-loop
-same-length-5 c = size _ _ (c .before .loop .inv .5 .cb-are) ∙ sym (entered c .pre .cb-nothing .size)
-
-same-length-6 : tie.Need-same-length-6 Inv-loop μ-loop
-same-length-6 c = size _ _ (c .before .loop .inv .5 .cr-are) ∙ sym (entered c .pre .cr-nothing .size)
-
 returns : tie.Need-returns Inv-loop μ-loop
 returns c = rw (le-antisymm (c .before .loop .inv .4) (c .loop-test .left)) at (c .before .loop .inv .5)
 
@@ -168,22 +129,22 @@ tap-rows-spec =
     (tie.spec
     Inv-loop
     μ-loop
-    mul-n
-    sub-n
-    sub-rows
+    (λ c. double (entry c .pre .window .few))
+    (λ c. entry (c .before) .pre .window .columns)
+    (λ c. entry (c .before .before) .pre .window .rows)
     loop-holds
-    add-average-squares
+    (λ c. in-rows _ _ _ (c .loop-test .taken) (start c .pre .frame .cb .low))
     average-squares-requires
-    add-squares
+    (λ c. fits (squared (c .before .before)))
     add-taps-requires
     add-taps-requires-2
-    add-r
-    loop-less
+    (λ c. one-more _ _ _ (turn c .loop-test .taken) (start (turn c) .pre .frame .cb .low))
+    (λ c. falls _ _ (turn c .loop-test .taken))
     loop-again
-    same-length
-    same-length-2
-    same-length-3
-    same-length-4
-    same-length-5
-    same-length-6
+    (λ c. c .before .loop .inv .0 ∙ sym (entered c .pre .sums-length))
+    (λ c. c .before .loop .inv .1 ∙ sym (entered c .pre .averages-length))
+    (λ c. c .before .loop .inv .2 ∙ sym (entered c .pre .line-length))
+    (λ c. c .before .loop .inv .3 ∙ sym (entered c .pre .row-length))
+    (λ c. size _ _ (c .before .loop .inv .5 .cb-are) ∙ sym (entered c .pre .cb-nothing .size))
+    (λ c. size _ _ (c .before .loop .inv .5 .cr-are) ∙ sym (entered c .pre .cr-nothing .size))
     returns)

@@ -12,9 +12,6 @@ returns c = let S = c .before .before .before in nothing (S .args .line .now) (S
 returns-2 : tie.Need-returns-2
 returns-2 c = let S = c .before .before .before .before .before in nothing (S .args .line .now) (S .pre .1) (inr (c .if2 .taken))
 
-line-squares-requires : tie.Need-line-squares-requires
-line-squares-requires c κs = c .before .before .before .before .before .before .before .pre .0 .shifted-line
-
 returns-3 : tie.Need-returns-3
 returns-3 c =
     let S = c .before .before .before .before .before .before .before .before in
@@ -36,7 +33,7 @@ bin-of-spec =
     (tie.spec
     returns
     returns-2
-    line-squares-requires
+    (λ c κs. c .before .before .before .before .before .before .before .pre .0 .shifted-line)
     returns-3
     (λ c. search needs)
     (λ c. search needs)

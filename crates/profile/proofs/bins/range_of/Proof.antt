@@ -12,9 +12,6 @@ Inv-loop bins least₀ greatest₀ i₀ i-end least greatest i = BetweenTo bins 
 abbrev μ-loop : tie.MeasureT-loop
 μ-loop bins least₀ greatest₀ i₀ i-end least greatest i = length bins - i
 
-loop-holds : tie.Need-loop-holds Inv-loop μ-loop
-loop-holds c = between-starts _ _ _
-
 loop-again : tie.Need-loop-again Inv-loop μ-loop
 loop-again c = rw (c .before .lesser .ensures, c .greater .ensures) (between-turn (c .before .before .before .before .loop .inv) (search needs))
 
@@ -27,7 +24,7 @@ range-of-spec =
     (tie.spec
     Inv-loop
     μ-loop
-    loop-holds
+    (λ c. between-starts _ _ _)
     (λ c. search needs)
     (λ c. search needs)
     (λ c. search needs)

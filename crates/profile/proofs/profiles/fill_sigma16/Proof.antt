@@ -13,9 +13,6 @@ Inv-loop enough plane count squares sigma₀ j₀ j-end sigma j = Filled (λ k. 
 abbrev μ-loop : tie.MeasureT-loop
 μ-loop enough plane count squares sigma₀ j₀ j-end sigma j = length sigma₀ - j
 
-loop-holds : tie.Need-loop-holds Inv-loop μ-loop
-loop-holds c = fill-starts _ _
-
 loop-again : tie.Need-loop-again Inv-loop μ-loop
 loop-again c = fill-turn _ _ _ (c .before .before .before .before .loop .inv) (search needs) (c .bin-sigma16 .ensures)
 
@@ -28,7 +25,7 @@ fill-sigma16-spec =
     (tie.spec
     Inv-loop
     μ-loop
-    loop-holds
+    (λ c. fill-starts _ _)
     (λ c. search needs)
     (λ c. search needs)
     (λ c. search needs)
