@@ -13,7 +13,6 @@ mod plot;
 mod pool;
 mod progress;
 mod reel;
-mod refused;
 mod report;
 mod say;
 mod still;

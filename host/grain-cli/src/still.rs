@@ -2,7 +2,6 @@
 
 use crate::clip::Picture;
 use crate::pool::Pool;
-use crate::refused;
 use anyhow::{Error, Result, anyhow};
 use grain::{Frame, Pair, Refusal, Shape};
 use std::sync::{Arc, OnceLock};
@@ -77,7 +76,7 @@ impl Still {
                     "it has a sample above {highest}, the highest of {depth} bits (question {number})"
                 )
             }
-            _ => refused::words(refusal),
+            _ => refusal.to_string(),
         };
         anyhow!("{}: frame {}: {words}", self.name, self.index)
     }

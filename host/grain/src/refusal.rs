@@ -2,9 +2,9 @@ use std::error::Error;
 use std::fmt;
 use std::num::NonZeroU32;
 
-/// Declares the refusals, each in one row: its name, its number in the C interface, and the question that was failed.
+/// Declares the refusals, each in one row: its name, its number in the C interface, the question that was failed, and what must hold instead.
 macro_rules! refusals {
-    ($($name:ident $number:literal $question:literal)*) => {
+    ($($name:ident $number:literal $question:literal $words:literal)*) => {
         /// The first question that a call's arguments failed. A refused call has changed nothing.
         ///
         /// ```
@@ -13,10 +13,7 @@ macro_rules! refusals {
         /// let refused = plane_sigma16(&[256], &[0], 1, 1, 8).unwrap_err();
         /// assert_eq!(refused, Refusal::SampleAboveDepth);
         /// assert_eq!(refused.number(), 6);
-        /// assert_eq!(
-        ///     refused.to_string(),
-        ///     "In a call with a depth, is every source and denoised sample below 2^depth? No: 6"
-        /// );
+        /// assert_eq!(refused.to_string(), "every sample must be below 2^depth (question 6)");
         /// ```
         #[derive(Debug, Clone, Copy, PartialEq, Eq, Hash)]
         #[non_exhaustive]
@@ -49,6 +46,16 @@ macro_rules! refusals {
             }
         }
 
+        impl fmt::Display for Refusal {
+            fn fmt(&self, f: &mut fmt::Formatter<'_>) -> fmt::Result {
+                let words = match self {
+                    $(Refusal::$name => $words,)*
+                    Refusal::Unknown(_) => "libgrain.a refuses the call for a reason that this crate has no words for",
+                };
+                write!(f, "{words} (question {})", self.number())
+            }
+        }
+
         impl From<NonZeroU32> for Refusal {
             fn from(number: NonZeroU32) -> Self {
                 match number.get() {
@@ -62,20 +69,23 @@ macro_rules! refusals {
 
 refusals! {
     SideAbove4096 1 "Are width and height each at most 4,096?"
+        "width and height must each be at most 4,096"
     EmptyFrame 2 "In a frame call (profile, fit, chroma correlation, gate, frame denoise), are both at least 1?"
+        "width and height must each be at least 1"
     Depth 3 "Is the depth 8, 10 or 12?"
+        "the depth must be 8, 10 or 12 bits"
     Format 4 "Is the format 0 to 3?"
+        "the format must be monochrome, 4:2:0, 4:2:2 or 4:4:4"
     PlaneLength 5 "Has every lent plane, destinations included, exactly its number of samples?"
+        "every plane must have as many samples as its size says"
     SampleAboveDepth 6 "In a call with a depth, is every source and denoised sample below 2^depth?"
+        "every sample must be below 2^depth"
     LagAbove3 7 "Is a fit's lag at most 3?"
+        "the lag must be at most 3"
     SolverOrder 8 "Is the solver's order 1 to 25?"
+        "the order must be 1 to 25"
     RegisterBits 9 "Is the register asked for at most 16 bits?"
-}
-
-impl fmt::Display for Refusal {
-    fn fmt(&self, f: &mut fmt::Formatter<'_>) -> fmt::Result {
-        write!(f, "{} No: {}", self.question(), self.number())
-    }
+        "the register gives at most 16 bits at once"
 }
 
 impl Error for Refusal {}

@@ -107,10 +107,9 @@ fn numbers_and_words() {
         let number = refusal.number();
         assert_eq!(of_number(number), refusal);
         assert!(refusal.question().ends_with('?'));
-        assert_eq!(
-            refusal.to_string(),
-            format!("{} No: {number}", refusal.question())
-        );
+        let words = refusal.to_string();
+        assert!(words.ends_with(&format!(" (question {number})")), "{words}");
+        assert!(!words.contains('?'), "{words}");
     }
 }
 
@@ -123,7 +122,7 @@ fn a_number_without_a_name() {
         assert_eq!(
             refusal.to_string(),
             format!(
-                "Does the call pass a question of libgrain.a that this crate has no words for? No: {number}"
+                "libgrain.a refuses the call for a reason that this crate has no words for (question {number})"
             )
         );
     }

@@ -1,7 +1,6 @@
 //! A clip's first line.
 
 use super::colour::colour_space;
-use crate::refused;
 use anyhow::{Context, Result, bail};
 use grain::{Refusal, SIDE_LIMIT, Shape};
 
@@ -78,12 +77,7 @@ impl Header {
         )?;
         let (space, word) = tags.colour_space();
         let (format, depth) = colour_space(&space, word)?;
-        let refuse = |refusal| {
-            bail!(
-                "the frames are {width}×{height}: {}",
-                refused::words(refusal)
-            )
-        };
+        let refuse = |refusal: Refusal| bail!("the frames are {width}×{height}: {refusal}");
         if width.max(height) > SIDE_LIMIT {
             return refuse(Refusal::SideAbove4096);
         }
