@@ -1,4 +1,4 @@
--- "The f64 sum" as the Rust takes it: from plus zero, one term after another, rounded at each.
+-- "The f64 sum": from plus zero, one term after another, rounded at each.
 use mathlib.Core.List.{List}
 use lib.Ieee.{Float, binary64, add}
 use Rattle.laws.specs.Loop.{visit}
