@@ -1,10 +1,9 @@
--- Limits whose sums f64 holds exactly: of two factors multiplied, and the widest there is. Assumes nothing.
+-- Two factors within a limit multiply within a limit. Assumes nothing.
 use Prim.Native.Nat.{ℕ, _+_, _*_, _^_, _≤_}
 use native.Mathlib.Nat.{le-trans}
-use lib.Dec.{lit≤}
 use lib.IntN.{ℤ, _*ℤ_}
 use lib.Ieee.{Float, binary64, mul}
-use Rattle.laws.specs.Law.{Held, Product}
+use Rattle.laws.specs.Law.{Product}
 use Rattle.laws.proofs.Whole.{abs-mul-le}
 use Rattle.laws.proofs.Scaled.{mul-holds}
 
@@ -17,7 +16,3 @@ module _ (n j k c d : ℕ) (fine : j + k ≤ 1074) (room : c * d ≤ 2 ^ 53) {A 
     small = λ p h. abs-mul-le (x p) (y p) c d (P .small p h) (Q .small p h);
     holds = λ p h. mul-holds j k (x p) (y p) (u p) (v p) (P .holds p h) (Q .holds p h) (le-trans (abs-mul-le (x p) (y p) c d (P .small p h) (Q .small p h)) room) fine;
   }
-
--- the widest: 2 ^ 53 positions, each one of the finest parts
-pub widest-held : Held (record { scale = 1074; count = 2 ^ 53; size = 1 })
-widest-held = record { fine = lit≤ tt; room = lit≤ tt }
