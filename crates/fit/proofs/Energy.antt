@@ -1,18 +1,12 @@
 -- The energy in f64 is at most plus zero exactly where the exact sum of squares is 0: that is no negative number, and f64 holds it. Assumes nothing.
-use mathlib.Core.Path.{_≡_, refl, sym, ap, _∙_}
-use mathlib.Core.Bool.{Bool, true, false, _&&_, _||_, true≢false}
-use Prim.Native.Nat.{ℕ, zero, suc, _+_, _*_, _^_, _≤_, _<_, zero-le}
-use native.Mathlib.Nat.{mul-pos, zero-mul}
-use native.Mathlib.Omega.{arith}
-use lib.Dec.{eqb, ltb}
-use lib.IntN.{ℤ, pos, negsuc, natAbs, pos-ne-negsuc}
+use mathlib.Core.Path.{_≡_, sym, ap, _∙_}
+use mathlib.Core.Bool.{true}
+use Prim.Native.Nat.{ℕ, _+_, _^_, _≤_}
+use lib.IntN.{ℤ, pos, natAbs}
 use lib.Signed.{_≤ℤ_}
-use lib.Ieee.{Float, nan, inf, fin, binary64, up, down, le, lt, eq, ofInt, ofBits}
-use lib.Ieee.Exact.{HasValue}
-use lib.Ieee.Fits.{down-pos}
-use borrow.Author.Tests.{ne-eqb, le-ltb}
+use lib.Ieee.{Float, binary64, le, ofInt}
 use Rattle.laws.specs.Limits.{planeLimit, sampleLimit}
-use Rattle.laws.specs.Scaled.{plusZero, signed}
+use Rattle.laws.specs.Scaled.{plusZero}
 use Rattle.laws.proofs.AtMostZero.{at-most-zero, zero-at-most}
 use Rattle.laws.proofs.Sums.{sum-nonneg}
 use Rattle.laws.proofs.Whole.{square-nonneg}

@@ -1,5 +1,5 @@
 -- Each accumulator of the Rust's one pass is the sum that the definitions give it, so the solver is handed what the Rust hands it: no turn reads another accumulator, and a place adds to each once. Assumes nothing.
-use mathlib.Core.Path.{_≡_, refl, sym, ap, _∙_, fun-ext}
+use mathlib.Core.Path.{_≡_, refl, sym, ap, _∙_}
 use mathlib.Core.Bool.{Bool, true, false, cond, _&&_}
 use Prim.Native.Nat.{ℕ, _-_, _≤_, _<_, zero-le}
 use native.Mathlib.Nat.{lt-of-le-of-lt, le-of-lt}
@@ -8,7 +8,6 @@ use lib.Ieee.{Float, binary64, add}
 use borrow.Author.Tests.{leb-true, leb-false}
 use Rattle.laws.specs.Loop.{loop}
 use Rattle.laws.specs.Scaled.{plusZero}
-use Rattle.laws.specs.Table.{tabulate}
 use Rattle.laws.specs.Window.{Place}
 use Rattle.laws.proofs.Table.{tabulate-same}
 use Rattle.laws.proofs.Accumulators.{loop-part, loops-part, loop-still, loop-only}
@@ -17,7 +16,7 @@ use Rattle.noise.specs.Products.{Factor, own, productF}
 use Rattle.noise.specs.Steps.{windowF}
 use Rattle.solve.specs.Answer.{solvedOf}
 use Rattle.fit.specs.Steps.{fitF, ataOf, atbOf, solvedFit, energyF}
-use Rattle.fit.specs.OnePass.{Accumulators, blank, addVar, addCell, addRight, rowTurn, placeTurn, onePass}
+use Rattle.fit.specs.OnePass.{Accumulators, blank, addCell, rowTurn, placeTurn, onePass}
 use Rattle.fit.proofs.RustMatrix.{rust-solved}
 
 module _ (plane : Pair) (row : ℕ → Factor) (p : ℕ) where

@@ -1,21 +1,15 @@
 -- What each gate finds, from the tests that its code makes: one law for each way through. Assumes nothing.
-use mathlib.Core.Path.{_≡_, sym, _∙_}
+use mathlib.Core.Path.{_≡_, _∙_}
 use mathlib.Core.Bool.{Bool, true, false, cond}
-use mathlib.Core.List.{List}
 use Prim.Native.Nat.{ℕ, _*_, _<_, _≤_}
 use lib.Ieee.{Float, binary64, div, le}
 use borrow.Author.Tests.{lt-ltb, le-ltb, eq-eqb, ne-eqb}
 use Rattle.laws.specs.Constants.{threeQuarters}
 use Rattle.laws.specs.Scaled.{plusZero}
-use Rattle.frame.specs.View.{viewed}
-use Rattle.frame.specs.declared.view.View.{View}
-use Rattle.frame.proofs.Viewed.{viewed-length}
 use Rattle.float.specs.Magnitude.{magnitudeOf}
-use Rattle.float.specs.Steps.{sigma16Of}
 use Rattle.noise.specs.Noise.{Pair}
 use Rattle.noise.specs.Steps.{dotF, lagF}
 use Rattle.noise.proofs.Steps.{lag-window}
-use Rattle.profile.specs.Steps.{planeSquares, planeSigma16}
 use Rattle.gate.specs.RowCorrelation.{rowCorrelation}
 use Rattle.gate.specs.Tests.{timeTest, temporalBy, secondFinding, lumaRow, lumaBy, lumaFinding, chromaBy, chromaFinding}
 use Rattle.gate.specs.declared.finding.Finding.{Finding}

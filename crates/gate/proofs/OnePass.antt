@@ -3,7 +3,7 @@ use mathlib.Core.Path.{_≡_, refl, sym, _∙_}
 use mathlib.Core.Bool.{cond}
 use Prim.Native.Nat.{ℕ, _+_}
 use lib.Dec.{ltb}
-use lib.Ieee.{Float, binary64, add, mul}
+use lib.Ieee.{binary64, add, mul}
 use Rattle.laws.specs.Loop.{loop}
 use Rattle.laws.specs.Scaled.{plusZero}
 use Rattle.laws.proofs.Accumulators.{loops-part}

@@ -1,26 +1,16 @@
 -- The f64 sums of a gate are the exact sums, turned into an f64 once: cases of demand 3. Assumes nothing.
-use mathlib.Core.Path.{_≡_, refl, sym, _∙_, ap, subst}
+use mathlib.Core.Path.{_≡_, refl, sym, _∙_, ap}
 use mathlib.Core.List.{List}
-use Prim.Native.Nat.{ℕ, _^_, _<_}
-use native.Mathlib.Nat.{add-zero, sub-zero, mul-comm, lt-of-lt-of-le}
-use lib.Dec.{lit≤}
-use lib.IntN.{ℤ, pos, _*ℤ_}
-use lib.ListN.{length}
-use lib.Signed.{mag}
+use Prim.Native.Nat.{ℕ}
+use native.Mathlib.Nat.{add-zero, sub-zero}
+use lib.IntN.{ℤ, _*ℤ_}
 use lib.Ieee.{binary64, ofInt}
-use mir.Syntax.{w64}
-use mir.Val.{Fits}
 use Rattle.laws.specs.Scaled.{ofScaled}
-use Rattle.laws.specs.Sums.{sumTo}
 use Rattle.laws.specs.Limits.{planeLimit, sampleLimit}
-use Rattle.laws.proofs.Sums.{sum-ext, sum-rows}
-use Rattle.laws.proofs.SumsN.{sum-pos}
 use Rattle.laws.proofs.Scaled.{scaled-int}
-use Rattle.frame.specs.View.{viewed}
 use Rattle.frame.specs.declared.view.View.{View}
-use Rattle.frame.proofs.Viewed.{viewed-length}
-use Rattle.noise.specs.Noise.{noise, noiseOf}
-use Rattle.noise.specs.Seen.{seen, Seen, sumOver, squared, laggedSum}
+use Rattle.noise.specs.Noise.{noiseOf}
+use Rattle.noise.specs.Seen.{seen, Seen, sumOver, laggedSum}
 use Rattle.noise.specs.Products.{own, onward}
 use Rattle.noise.specs.Claim.{Limited}
 use Rattle.noise.specs.Steps.{dotF, lagF}
@@ -28,10 +18,6 @@ use Rattle.noise.proofs.Products.{plane-samples}
 use Rattle.noise.proofs.Seen.{seen-plane}
 use Rattle.noise.proofs.Products.{frame-held}
 use Rattle.noise.proofs.Steps.{dot-sum, lag-sum}
-use Rattle.profile.specs.Shifted.{shiftedNoise, square}
-use Rattle.profile.specs.Steps.{planeSquares}
-use Rattle.profile.proofs.Squares.{square-pos}
-use Rattle.profile.proofs.StepSums.{plane-sum}
 
 -- ---- of a plane and its copy, as a view shows them
 module _ {v : View} {s d : List ℕ} (S : Seen v s d) where

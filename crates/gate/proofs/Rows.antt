@@ -7,7 +7,7 @@ use borrow.Author.Tests.{le-leb, lt-leb, eq-eqb, ne-eqb}
 use Rattle.laws.specs.Scaled.{plusZero}
 use Rattle.noise.specs.Noise.{Pair}
 use Rattle.noise.specs.Steps.{dotF, lagF}
-use Rattle.gate.specs.RowCorrelation.{energyF, correlationOf, rowCorrelation}
+use Rattle.gate.specs.RowCorrelation.{correlationOf, rowCorrelation}
 use Rattle.gate.proofs.EnergyZero.{energy-dot}
 
 -- ---- from the sums

@@ -11,9 +11,9 @@ use mir.Val.{SFits, ofZ, toZ}
 use Rattle.laws.specs.Limits.{sideLimit}
 use Rattle.laws.specs.Sums.{total, sumTo}
 use Rattle.laws.proofs.Sums.{sum-bound, sum-more}
-use Rattle.laws.proofs.Is.{Is, self, again, known, plus}
+use Rattle.laws.proofs.Is.{Is, self, again, plus}
 use Rattle.frame.specs.declared.view.View.{View}
-use Rattle.noise.specs.Seen.{noiseAt, Seen, squared, RowSums, SumsOf, RowCross, CrossOf}
+use Rattle.noise.specs.Seen.{noiseAt, Seen, RowSums, SumsOf, RowCross, CrossOf}
 use Rattle.noise.specs.Rows.{planePlus, PlaneHeld, pairPlus, PairHeld}
 use Rattle.noise.specs.declared.sums.PlaneSums.{PlaneSums}
 use Rattle.noise.specs.declared.rows.PairSums.{PairSums}
@@ -56,17 +56,6 @@ module _ {v : View} {source denoised : List ℕ} (S : Seen v source denoised) wh
     where
       fewer : (n lag : ℕ) → n ≤ sideLimit → n - lag ≤ sideLimit
       fewer n lag h = omega arith
-
--- ---- of the shifted squares alone
-module _ {v : View} {source denoised : List ℕ} (S : Seen v source denoised) (shift : ℕ) where
-  abbrev row : ℕ → ℤ
-  row r = sumTo (λ c. squared shift (noiseAt source denoised v r c)) (v .width)
-
-  -- with a row more, as the machine adds it
-  pub squares-turn : {r : ℕ} → r < v .height → {m s : ℤ} → m ≡ sumTo row r → SFits w64 s → s ≡ row r → Is w64 (m +ℤ toZ w64 (ofZ w64 s)) (sumTo row (r + 1))
-  squares-turn {r} l e h d =
-      known (with-row row r e (again (self h) .eq ∙ d))
-      (sum-held row (lit≤ tt) (S .narrow) (omega (arith, S .low)) (λ i k. squares-le (S .rows i (omega arith)) shift) refl)
 
 -- ---- of two
 module _ {n m : ℕ → ℕ → ℤ} {columns : ℕ} where

@@ -95,13 +95,10 @@ over : (rows columns : ℕ) (f g : ℕ → ℕ → ℤ) → ((r c : ℕ) → r <
 over rows columns f g e = sum-ext _ _ rows (λ r l. sum-ext _ _ columns (λ c m. e r c l m))
 
 module _ {rows columns : ℕ} {n m : ℕ → ℕ → ℤ} (e : (r c : ℕ) → r < rows → c < columns → n r c ≡ m r c) where
-  pub squares-same : (shift : ℕ) {s : ℤ} → s ≡ sumOver rows columns (λ r c. squared shift (n r c)) → s ≡ sumOver rows columns (λ r c. squared shift (m r c))
-  squares-same shift s = s ∙ over rows columns _ _ (λ r c l k. ap (squared shift) (e r c l k))
-
   pub sums-same : {lag shift : ℕ} {s : PlaneSums} → SumsOf n rows columns lag shift s → SumsOf m rows columns lag shift s
   sums-same {lag} {shift} s =
       record {
-        squares = squares-same shift (s .squares);
+        squares = s .squares ∙ over rows columns _ _ (λ r c l k. ap (squared shift) (e r c l k));
         energy = s .energy ∙ over rows columns _ _ (λ r c l k i. e r c l k i *ℤ e r c l k i);
         lagged = s .lagged ∙ over rows (columns - lag) _ _ (λ r c l k i. e r c l (omega arith) i *ℤ e r (c + lag) l (omega arith) i);
       }

@@ -3,7 +3,6 @@ mod average;
 mod blocks;
 mod line;
 mod rows;
-mod squares;
 mod sums;
 
 pub use average::average_line;
@@ -14,6 +13,5 @@ pub use line::noise_line;
 pub use line::shifted_line;
 pub use rows::PairSums;
 pub use rows::pair_sums;
-pub use squares::shifted_squares;
 pub use sums::PlaneSums;
 pub use sums::plane_sums;

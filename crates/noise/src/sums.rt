@@ -31,28 +31,17 @@ fn lagged_dot(line: &[i16], lag: usize) -> i64
     dot(&line[..n], &line[lag..])
 }
 
-// (line[0] >> shift)² + (line[1] >> shift)² + .. The shifted line is out, left alone where nothing is shifted.
-pub fn shifted_energy(line: &[i16], shift: u32, out: &mut [i16]) -> i64
-    requires { ⌜ NoiseLine (now line) × (shift < 16) × (length (now out) ≡ length (now line)) ⌝ }
+// (line[0] >> shift)² + (line[1] >> shift)² + .., which is the energy where nothing is shifted. The shifted line is out.
+fn shifted_energy(line: &[i16], shift: u32, energy: i64, out: &mut [i16]) -> i64
+    requires { ⌜ NoiseLine (now line) × (shift < 16) × (length (now out) ≡ length (now line)) × (energy ≡ sumTo (product (now line) (now line)) (length (now line))) ⌝ }
     ensures { λ r. ⌜ r ≡ sumTo (λ i. squared shift (at (now (line .entry)) i)) (length (now (line .entry))) ⌝ }
 {
     if shift == 0 {
-        return dot(line, line);
+        return energy;
     }
     shifted_line(line, shift, out);
     let shifted = &out[..];
     dot(shifted, shifted)
-}
-
-// line[0]² + line[1]² + .., which are the shifted squares where nothing is shifted.
-fn energy_of(line: &[i16], shift: u32, squares: i64) -> i64
-    requires { ⌜ NoiseLine (now line) × (squares ≡ sumTo (λ i. squared shift (at (now line) i)) (length (now line))) ⌝ }
-    ensures { λ r. ⌜ r ≡ sumTo (product (now (line .entry)) (now (line .entry))) (length (now (line .entry))) ⌝ }
-{
-    if shift == 0 {
-        return squares;
-    }
-    dot(line, line)
 }
 
 // The sums of a row, from a start and by a stride. Its noise is p, shifted q.
@@ -71,9 +60,9 @@ fn row_sums(
 {
     noise_line(src, den, start, stride, p);
     let line = &p[..];
-    let squares = shifted_energy(line, shift, q);
-    let energy = energy_of(line, shift, squares);
+    let energy = dot(line, line);
     let lagged = lagged_dot(line, lag);
+    let squares = shifted_energy(line, shift, energy, q);
     PlaneSums {
         squares,
         energy,

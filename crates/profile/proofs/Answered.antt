@@ -10,6 +10,7 @@ use Rattle.frame.specs.declared.view.View.{View}
 use Rattle.frame.specs.declared.view.Component.the-variants.{Y, CbCr}
 use Rattle.frame.proofs.Accepted.{pair-call, frame-call}
 use Rattle.frame.proofs.Facts.{Sides, chroma-sides, Depth, LowPlane}
+use Rattle.frame.proofs.Viewed.{viewed-whole}
 use Rattle.frame.proofs.Refusal.{answer-refused, answer-granted}
 use Rattle.noise.proofs.Seen.{seen-all}
 use Rattle.noise.proofs.Accepted.{plane-of}
@@ -36,9 +37,12 @@ module _ (w h depth : ℕ) (source denoised : List ℕ) {n : ℕ} (e : n ≡ pai
   unfolding sigmaAnswer
   sigma-refused z = answer-refused (sigmaOf (planeSigma16 (depth - 8) (viewed (whole w h) source) (viewed (whole w h) denoised))) noSigma e z
 
-  pub sigma-accepted : n ≡ 0 → {v : ℕ} → v ≡ planeSigma16 (depth - 8) (viewed (whole w h) source) (viewed (whole w h) denoised) → sigmaOf v ≡ sigmaAnswer w h depth source denoised
+  pub sigma-accepted : n ≡ 0 → {v : ℕ} → v ≡ planeSigma16 (depth - 8) source denoised → sigmaOf v ≡ sigmaAnswer w h depth source denoised
   unfolding sigmaAnswer
-  sigma-accepted z is = ap sigmaOf is ∙ answer-granted (sigmaOf (planeSigma16 (depth - 8) (viewed (whole w h) source) (viewed (whole w h) denoised))) noSigma e z
+  sigma-accepted z is =
+      let c = pair-call w h depth source denoised (sym e ∙ z) in
+      ap sigmaOf (is ∙ (λ i. planeSigma16 (depth - 8) (sym (viewed-whole w h source (c .first .samples)) i) (sym (viewed-whole w h denoised (c .second .samples)) i)))
+      ∙ answer-granted (sigmaOf (planeSigma16 (depth - 8) (viewed (whole w h) source) (viewed (whole w h) denoised))) noSigma e z
 
 -- ---- noise_estimate
 module _ (s : Shape) (y cb cr y-denoised cb-denoised cr-denoised : List ℕ) {n : ℕ} (e : n ≡ frameRefusal s y cb cr y-denoised cb-denoised cr-denoised) where

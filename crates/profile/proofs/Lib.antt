@@ -8,6 +8,8 @@ pub mod Adding
 pub mod Rows
 pub mod StepSums
 pub mod ViewSquares
+pub mod LowParts
+pub mod Asked
 pub mod AddUp
 pub mod Figures
 pub mod AsWorded

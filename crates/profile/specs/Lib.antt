@@ -7,3 +7,4 @@ pub mod Words
 -- how the work is divided: the contracts of the parts
 pub mod Parts
 pub mod Runs
+pub mod LowParts

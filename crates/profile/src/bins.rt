@@ -82,7 +82,7 @@ fn keep_bin(line: &[i16], bins: &[u16], j: u16, own: &mut [i16]) -> u16
 }
 
 // line[0]² + line[1]² + ..
-fn line_squares(line: &[i16]) -> u64
+pub fn line_squares(line: &[i16]) -> u64
     requires { ⌜ ShiftedLine (now line) ⌝ }
     ensures { λ r. ⌜ r ≡ sumN (λ i. squareOf (at (now (line .entry)) i)) (length (now (line .entry))) ⌝ }
 {

@@ -2,6 +2,7 @@
 mod lines; // the lines of a part: shifted noise, and bins
 mod bins; // the bins of a part
 mod profiles; // the profile of a plane
+mod parts; // a part of a lone plane
 mod planes; // sigma16 of a plane
 mod estimate; // the profiles of a frame
 

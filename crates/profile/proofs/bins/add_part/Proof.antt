@@ -1,5 +1,4 @@
 -- `profile::bins::add_part` meets its contract: its lines have its bins. Assumes nothing.
-use mathlib.Core.Path.{sym, _∙_}
 use Prim.Native.Nat.{_-_}
 use native.Mathlib.Omega.{arith}
 use borrow.Author.Needs.{needs}

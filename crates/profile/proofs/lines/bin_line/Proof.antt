@@ -1,6 +1,6 @@
 -- `profile::lines::bin_line` meets its contract: where the stride is 1 it is 1. Assumes nothing.
 use mathlib.Core.Path.{_≡_, sym, subst}
-use Prim.Native.Nat.{ℕ, _<_}
+use Prim.Native.Nat.{ℕ}
 use borrow.Author.Needs.{needs}
 use lib.ListN.{length}
 use Rattle.laws.specs.Table.{tabulate}

@@ -5,7 +5,6 @@ use native.Mathlib.Omega.{arith}
 use borrow.Author.Needs.{needs}
 use lib.ListN.{length}
 use Rattle.laws.proofs.Fill.{Filled, fill-starts, fill-turn, fill-ends}
-use Rattle.noise.proofs.Shift.{small-fits}
 use Rattle.profile.specs.Parts.{coarseAt}
 use Rattle.profile.proofs.lines.bins_at.Statement.{statement}
 use Rattle.profile.proofs.lines.bins_at.Tie as tie
