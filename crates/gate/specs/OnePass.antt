@@ -12,16 +12,16 @@ pub record Accumulators : Type 0 where
   pub lagsum : Float
 
 -- `n[i]`
-abbrev pub noiseAt : Pair → ℕ → Float
-noiseAt p i = noiseF (p .source) (p .denoised) i
+abbrev pub numberAt : Pair → ℕ → Float
+numberAt p i = noiseF (p .source) (p .denoised) i
 
 -- `e += n[r * w + c] * n[r * w + c]; if c + lag < w { lagsum += n[r * w + c] * n[r * w + c + lag]; }`
 abbrev pub placeTurn : Pair → ℕ → ℕ → ℕ → Accumulators → Accumulators
 placeTurn p lag r c s =
     let i = place (p .width) r c in
     record {
-      e = add binary64 (s .e) (mul binary64 (noiseAt p i) (noiseAt p i));
-      lagsum = cond (ltb (c + lag) (p .width)) (add binary64 (s .lagsum) (mul binary64 (noiseAt p i) (noiseAt p (i + lag)))) (s .lagsum);
+      e = add binary64 (s .e) (mul binary64 (numberAt p i) (numberAt p i));
+      lagsum = cond (ltb (c + lag) (p .width)) (add binary64 (s .lagsum) (mul binary64 (numberAt p i) (numberAt p (i + lag)))) (s .lagsum);
     }
 
 -- `for r in 0..h { for c in 0..w { .. } }`, both from 0.0

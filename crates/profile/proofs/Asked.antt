@@ -1,17 +1,17 @@
 -- Question 6 of a lone plane is asked last, part by part: what the call answers where the others are passed. Assumes nothing.
-use mathlib.Core.Path.{_≡_, refl, sym, ap, _∙_}
-use mathlib.Core.Bool.{Bool, true, cond, _&&_, and-true}
+use mathlib.Core.Path.{_≡_, refl, sym, _∙_}
+use mathlib.Core.Bool.{Bool, true, cond}
 use mathlib.Core.List.{List, [], _∷_, _++_}
 use Prim.Native.Nat.{ℕ, _*_}
 use native.Mathlib.Nat.{le-trans, le-of-eq}
 use lib.ListN.{length}
 use Rattle.laws.specs.Limits.{sideLimit, planeLimit}
-use Rattle.frame.specs.Questions.{Question, firstNo, samplesLow, allLow, low}
+use Rattle.frame.specs.Questions.{Question, firstNo, samplesLow, allLow}
 use Rattle.frame.specs.Calls.{pairNumbers, pairRefusal}
 use Rattle.frame.proofs.Refusal.{numbered, passed, first-no-append, stopped}
 use Rattle.frame.proofs.Facts.{is-small, is-depth, are-each}
 use Rattle.frame.proofs.Size.{area-le}
-use Rattle.profile.specs.LowParts.{Copied, bothLow}
+use Rattle.profile.specs.LowParts.{Copied}
 
 -- the last question, where the others are passed
 pub last-question : (qs : List Question) → numbered qs ≡ true → firstNo qs ≡ 0 → (q : Question) {r : Bool} → r ≡ q .0 → firstNo (qs ++ (q ∷ [])) ≡ cond r 0 (q .1)
@@ -22,11 +22,9 @@ module _ (w h depth : ℕ) (a b : List ℕ) {n : ℕ} (e : n ≡ firstNo (pairNu
   unfolding pairRefusal pairNumbers
   plane-stopped z = stopped (pairNumbers w h depth (length a ∷ length b ∷ [])) refl e (samplesLow depth (a ∷ b ∷ []) ∷ []) z
 
-  pub plane-asked : n ≡ 0 → {r : Bool} → r ≡ bothLow depth a b → pairRefusal w h depth a b ≡ cond r 0 6
-  unfolding pairRefusal pairNumbers allLow
-  plane-asked z p =
-      last-question (pairNumbers w h depth (length a ∷ length b ∷ [])) refl (sym e ∙ z) (samplesLow depth (a ∷ b ∷ []))
-      (p ∙ ap (λ (t : Bool). low depth a && t) (sym (and-true (low depth b))))
+  pub plane-asked : n ≡ 0 → {r : Bool} → r ≡ allLow depth (a ∷ b ∷ []) → pairRefusal w h depth a b ≡ cond r 0 6
+  unfolding pairRefusal pairNumbers
+  plane-asked z p = last-question (pairNumbers w h depth (length a ∷ length b ∷ [])) refl (sym e ∙ z) (samplesLow depth (a ∷ b ∷ [])) p
 
   pub plane-pair : n ≡ 0 → Copied planeLimit depth a b
   unfolding pairNumbers

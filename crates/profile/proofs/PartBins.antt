@@ -26,14 +26,17 @@ pub record LinesOf (source denoised : List ℕ) (start stride shift coarse n : �
   pub line-is : line ≡ tabulate n (λ i. shiftedNoise shift source denoised (start + i * stride))
   pub bins-is : bins ≡ tabulate n (coarseAt source start stride coarse)
 
--- the noise of a run first, then shifted; and the bins
+-- the noise of a run first, then shifted
+pub shifted-is : (source denoised : List ℕ) (start stride shift : ℕ) {n m : ℕ} {line own : List ℤ} → own ≡ tabulate m (rowNoise source denoised start stride) → line ≡ tabulate n (λ i. shifted shift (at own i)) → m ≡ n
+    → line ≡ tabulate n (λ i. shiftedNoise shift source denoised (start + i * stride))
+shifted-is source denoised start stride shift {n} o l e =
+    l ∙ tabulate-same n _ _ (λ i h. ap (shifted shift) (entry n (rowNoise source denoised start stride) (o ∙ ap (λ (m : ℕ). tabulate m (rowNoise source denoised start stride)) e) i h))
+
+-- and the bins
 pub lines-are : (source denoised : List ℕ) (start stride shift coarse : ℕ) {n m k : ℕ} {line own : List ℤ} {bins : List ℕ} → own ≡ tabulate m (rowNoise source denoised start stride) → line ≡ tabulate n (λ i. shifted shift (at own i)) → bins ≡ tabulate k (coarseAt source start stride coarse) → m ≡ n → k ≡ n
     → LinesOf source denoised start stride shift coarse n line bins
-lines-are source denoised start stride shift coarse {n} o l b e f =
-    record {
-      line-is = l ∙ tabulate-same n _ _ (λ i h. ap (shifted shift) (entry n (rowNoise source denoised start stride) (o ∙ ap (λ (m : ℕ). tabulate m (rowNoise source denoised start stride)) e) i h));
-      bins-is = b ∙ ap (λ (m : ℕ). tabulate m (coarseAt source start stride coarse)) f;
-    }
+lines-are source denoised start stride shift coarse o l b e f =
+    record { line-is = shifted-is source denoised start stride shift o l e; bins-is = b ∙ ap (λ (m : ℕ). tabulate m (coarseAt source start stride coarse)) f }
 
 module _ {depth start stride n : ℕ} {source denoised : List ℕ} (R : Run depth source denoised start stride n) where
   -- what is below 2 ^ depth is below 2 ^ 15
@@ -48,7 +51,7 @@ module _ {depth start stride n : ℕ} {source denoised : List ℕ} (R : Run dept
         denoised-low = λ i l. lt-of-lt-of-le (R .places .denoised-low i l) most;
       }
 
-  run-noise : (i : ℕ) → i < n → natAbs (shiftedNoise (depth - 8) source denoised (start + i * stride)) ≤ shiftedLimit
+  pub run-noise : (i : ℕ) → i < n → natAbs (shiftedNoise (depth - 8) source denoised (start + i * stride)) ≤ shiftedLimit
   run-noise i l =
       let k = R .places .inside i l in
       range-small _

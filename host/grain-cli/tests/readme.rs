@@ -2,7 +2,7 @@
 
 mod common;
 
-use common::{folder, sample, written};
+use common::{folder, on_sample, sample, written};
 use std::fs;
 use std::path::{Path, PathBuf};
 use std::process::Command;
@@ -28,16 +28,7 @@ fn texts(svg: &str) -> Vec<&str> {
 fn the_report_and_the_plot() {
     let (samples, _) = sample();
     let plot = samples.join("readme.svg");
-    let words = [
-        "report",
-        "grain.y4m",
-        "--denoised",
-        "clean.y4m",
-        "--brief",
-        "--plot",
-        "readme.svg",
-        "--force",
-    ];
+    let words = on_sample(&["--brief", "--plot", "readme.svg", "--force"]);
     let shown = String::from_utf8(written(samples, &words)).unwrap();
     assert_eq!(block("text"), shown);
     let committed = fs::read_to_string(root().join("docs/grain.svg")).unwrap();
@@ -48,14 +39,7 @@ fn the_report_and_the_plot() {
 #[test]
 fn the_true_coefficients_beside_those_found() {
     let (samples, _) = sample();
-    let words = [
-        "report",
-        "grain.y4m",
-        "--denoised",
-        "clean.y4m",
-        "--brief",
-        "--json",
-    ];
+    let words = on_sample(&["--brief", "--json"]);
     fs::write(samples.join("beside.json"), written(samples, &words)).unwrap();
     let run = Command::new("python3")
         .arg(root().join("host/sample"))

@@ -2,7 +2,7 @@
 
 mod common;
 
-use common::{Planes, clip, command, folder, json, sample, shapes, written};
+use common::{Planes, clip, command, folder, json, on_sample, sample, shapes, written};
 use grain::{Chroma, Format, Pair, Shape, TwoFrames};
 use serde_json::{Value, json};
 use std::fs;
@@ -42,10 +42,7 @@ fn whole(list: &Value) -> Vec<i64> {
 #[test]
 fn known_coefficients_come_back() {
     let (folder, script) = sample();
-    let report = json(
-        folder,
-        &["report", "grain.y4m", "--denoised", "clean.y4m", "--json"],
-    );
+    let report = json(folder, &on_sample(&["--json"]));
     assert_eq!(report["clip"]["denoised"], "clean.y4m");
     let frames = report["frames"].as_array().unwrap();
     assert_eq!(frames.len(), 6);
@@ -82,8 +79,7 @@ fn known_coefficients_come_back() {
 #[test]
 fn the_table_has_the_neighbourhood() {
     let (folder, script) = sample();
-    let words = ["report", "grain.y4m", "--denoised", "clean.y4m", "--brief"];
-    let table = String::from_utf8(written(folder, &words)).unwrap();
+    let table = String::from_utf8(written(folder, &on_sample(&["--brief"]))).unwrap();
     assert!(
         table.starts_with("grain.y4m: 320×240, 10 bits, 4:2:0, 6 frames\n"),
         "{table}"

@@ -2,7 +2,7 @@
 
 mod common;
 
-use common::{Planes, clip, folder, json, sample, written};
+use common::{Planes, clip, folder, json, on_sample, sample, written};
 use grain::{Format, Shape};
 use serde_json::{Value, json};
 use std::fs;
@@ -96,15 +96,7 @@ fn past_a_leader() {
 #[test]
 fn the_lag_is_that_of_the_grain() {
     let (folder, _) = sample();
-    let given = [
-        "report",
-        "grain.y4m",
-        "--denoised",
-        "clean.y4m",
-        "--brief",
-        "--json",
-    ];
-    let verdict = json(folder, &given)["clip"]["verdict"].clone();
+    let verdict = json(folder, &on_sample(&["--brief", "--json"]))["clip"]["verdict"].clone();
     assert_eq!(
         (&verdict["grain"], &verdict["lag"]),
         (&json!(true), &json!(1))

@@ -172,3 +172,10 @@ pub fn sample() -> &'static (PathBuf, String) {
         (folder, fs::read_to_string(script).unwrap())
     })
 }
+
+/// The words of a report on the sample clip with its true copy, and more.
+pub fn on_sample<'a>(more: &[&'a str]) -> Vec<&'a str> {
+    let mut words = vec!["report", "grain.y4m", "--denoised", "clean.y4m"];
+    words.extend(more);
+    words
+}
