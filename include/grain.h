@@ -22,7 +22,7 @@
 #include <stdint.h>
 
 #define GRAIN_VERSION_MAJOR 0
-#define GRAIN_VERSION_MINOR 1
+#define GRAIN_VERSION_MINOR 2
 #define GRAIN_VERSION_PATCH 0
 
 /* The largest width and height. */
@@ -148,10 +148,22 @@ grain_gate grain_chroma_noise_gate(grain_shape s, const uint16_t *src0, size_t s
                                    const uint16_t *src1, size_t src1_len, const uint16_t *den1, size_t den1_len,
                                    uint64_t sigma16);
 
+/* What became of a value on its way to a coefficient. A coefficient that is 0 because there was no value to quantise is
+ * GRAIN_INSIDE. */
+enum grain_mark {
+    GRAIN_INSIDE = 0,      /* The coefficient is the rounded value. */
+    GRAIN_HELD_LOW = 1,    /* The rounded value is below -128, the coefficient -128. */
+    GRAIN_HELD_HIGH = 2,   /* The rounded value is above 127, the coefficient 127. */
+    GRAIN_NOT_A_NUMBER = 3 /* The value is NaN, the coefficient 0. */
+};
+
+/* A grain_mark for each coefficient. */
 typedef struct grain_chroma_corr {
     uint32_t refusal;
     int32_t cb;
     int32_t cr;
+    uint8_t cb_mark;
+    uint8_t cr_mark;
 } grain_chroma_corr;
 
 /* Of Cb and of Cr: quant_ar(sum of a * n / sum of a^2), a the average of luma's noise at the chroma place; 0 where the
@@ -164,9 +176,15 @@ grain_chroma_corr grain_fit_chroma_corr(grain_shape s, const uint16_t *y, size_t
 
 /* ---- Fits ---- */
 
+/* A coefficient and its grain_mark. */
+typedef struct grain_quantised {
+    int32_t coefficient;
+    uint8_t mark;
+} grain_quantised;
+
 /* round(64 * x), held to -128..127; 0 of NaN
  * Asked nothing. */
-int32_t grain_quant_ar(double x);
+grain_quantised grain_quant_ar(double x);
 
 /* `order` values; the rest are 0.0. */
 typedef struct grain_solution {
@@ -198,8 +216,9 @@ typedef struct grain_positions {
  * Asked 7. */
 grain_positions grain_ar_positions(size_t lag);
 
-/* `count` coefficients of luma; as many of Cb and of Cr, then the luma tap; the rest are 0. Not found: lag 0, a plane too
- * small (width <= 2 * lag or height <= lag), no noise, no solution, or all coefficients of luma 0. */
+/* `count` coefficients of luma; as many of Cb and of Cr, then the luma tap; the rest are 0. A grain_mark for each. Not
+ * found: lag 0, a plane too small (width <= 2 * lag or height <= lag), no noise, no solution, or all coefficients of
+ * luma 0. */
 typedef struct grain_fit {
     uint32_t refusal;
     bool found;
@@ -207,6 +226,9 @@ typedef struct grain_fit {
     int32_t luma[24];
     int32_t cb[25];
     int32_t cr[25];
+    uint8_t luma_marks[24];
+    uint8_t cb_marks[25];
+    uint8_t cr_marks[25];
 } grain_fit;
 
 /* quant_ar of the least squares of a sample's noise by its neighbours' noises, and for chroma by luma's average as well;

@@ -1,6 +1,6 @@
 use crate::pair::of_pair;
 use crate::refusal::accepted;
-use crate::{Pair, Refusal, sys};
+use crate::{Mark, Pair, Refusal, sys};
 
 /// The luma tap of each chroma plane where no neighbour has one.
 #[derive(Debug, Clone, Copy, PartialEq, Eq)]
@@ -10,6 +10,10 @@ pub struct ChromaCorr {
     pub cb: i32,
     /// Of Cr, in 64ths.
     pub cr: i32,
+    /// What became of Cb's value.
+    pub cb_mark: Mark,
+    /// What became of Cr's value.
+    pub cr_mark: Mark,
 }
 
 /// How far each chroma plane's noise follows luma's, quantised.
@@ -22,6 +26,7 @@ pub struct ChromaCorr {
 /// let flat = Frame::new(shape, &[0; 3], &[0; 2], &[0; 2]);
 /// let found = grain::fit_chroma_corr(&Pair::new(frame, flat)?)?;
 /// assert_eq!((found.cb, found.cr), (9, 0));
+/// assert_eq!(found.cb_mark, grain::Mark::Inside);
 /// # Ok::<(), Box<dyn std::error::Error>>(())
 /// ```
 pub fn fit_chroma_corr(pair: &Pair) -> Result<ChromaCorr, Refusal> {
@@ -29,6 +34,8 @@ pub fn fit_chroma_corr(pair: &Pair) -> Result<ChromaCorr, Refusal> {
     accepted(found.refusal).map(|()| ChromaCorr {
         cb: found.cb,
         cr: found.cr,
+        cb_mark: Mark::numbered(found.cb_mark),
+        cr_mark: Mark::numbered(found.cr_mark),
     })
 }
 
@@ -59,6 +66,12 @@ pub struct ArFit {
     pub cb: Vec<i32>,
     /// Those of Cr, and its luma tap.
     pub cr: Vec<i32>,
+    /// What became of each value of luma.
+    pub y_marks: Vec<Mark>,
+    /// The same of Cb, its luma tap last.
+    pub cb_marks: Vec<Mark>,
+    /// The same of Cr, its luma tap last.
+    pub cr_marks: Vec<Mark>,
 }
 
 /// The auto-regressive fit of a frame's noise at one lag, or `None` where there is no fit.
@@ -74,11 +87,15 @@ pub struct ArFit {
 pub fn fit_ar_lag(pair: &Pair, lag: usize) -> Result<Option<ArFit>, Refusal> {
     let found = of_pair!(grain_fit_ar_lag, pair, lag);
     accepted(found.refusal)?;
+    let marks = |bytes: &[u8]| bytes.iter().copied().map(Mark::numbered).collect();
     Ok(found.found.then(|| ArFit {
         lag: lag as u8,
         y: found.luma[..found.count].to_vec(),
         cb: found.cb[..=found.count].to_vec(),
         cr: found.cr[..=found.count].to_vec(),
+        y_marks: marks(&found.luma_marks[..found.count]),
+        cb_marks: marks(&found.cb_marks[..=found.count]),
+        cr_marks: marks(&found.cr_marks[..=found.count]),
     }))
 }
 
@@ -105,14 +122,4 @@ pub fn solve_normal(
     Ok(found
         .found
         .then(|| solution.values[..solution.order].to_vec()))
-}
-
-/// The whole number nearest 64 × `c`, halves away from zero, held to −128..127; 0 of NaN.
-///
-/// ```
-/// assert_eq!([0.0078125, -0.0078125, 1e9].map(grain::quant_ar), [1, -1, 127]);
-/// ```
-pub fn quant_ar(c: f64) -> i32 {
-    // SAFETY: a number alone is passed.
-    unsafe { sys::grain_quant_ar(c) }
 }

@@ -36,18 +36,18 @@ mod frame;
 mod gate;
 mod pair;
 mod profile;
+mod quant;
 mod random;
 mod refusal;
 #[allow(missing_docs)] // include/grain.h says what each is
 pub mod sys;
 
 pub use denoise::{denoise_frame, denoise_plane};
-pub use fit::{
-    ArFit, ChromaCorr, ar_positions, fit_ar_lag, fit_chroma_corr, quant_ar, solve_normal,
-};
+pub use fit::{ArFit, ChromaCorr, ar_positions, fit_ar_lag, fit_chroma_corr, solve_normal};
 pub use frame::{Chroma, Format, Frame, SIDE_LIMIT, Shape};
 pub use gate::{chroma_noise_gate, film_grain_probe, lag_h_rho};
 pub use pair::{Pair, ShapeMismatch, TwoFrames};
 pub use profile::{Bin, NoiseEstimate, Profile, noise_estimate, plane_sigma16};
+pub use quant::{Mark, Quantised, quant_ar};
 pub use random::{RandomRegister, grain_seed_for};
 pub use refusal::Refusal;

@@ -65,6 +65,16 @@ pub struct ChromaCorr {
     pub refusal: u32,
     pub cb: i32,
     pub cr: i32,
+    pub cb_mark: u8,
+    pub cr_mark: u8,
+}
+
+/// `grain_quantised`
+#[repr(C)]
+#[derive(Debug, Clone, Copy)]
+pub struct Quantised {
+    pub coefficient: i32,
+    pub mark: u8,
 }
 
 /// `grain_solution`
@@ -104,6 +114,9 @@ pub struct Fit {
     pub luma: [i32; 24],
     pub cb: [i32; 25],
     pub cr: [i32; 25],
+    pub luma_marks: [u8; 24],
+    pub cb_marks: [u8; 25],
+    pub cr_marks: [u8; 25],
 }
 
 /// `grain_random`
@@ -260,7 +273,7 @@ unsafe extern "C" {
         cr_den_len: usize,
     ) -> ChromaCorr;
 
-    pub fn grain_quant_ar(x: f64) -> i32;
+    pub fn grain_quant_ar(x: f64) -> Quantised;
 
     pub fn grain_solve_normal(a: *const f64, b: *const f64, order: usize) -> Solved;
 
