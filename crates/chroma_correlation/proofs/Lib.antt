@@ -1,5 +1,6 @@
 pub mod Averages
 pub mod Taps
+pub mod Parts
 pub mod Answers
 pub mod OnlyCr
 pub mod Demand

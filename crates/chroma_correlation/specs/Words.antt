@@ -1,0 +1,8 @@
+-- What is said of the answer, in the documents' words.
+use mathlib.Core.Path.{_≡_}
+use Rattle.chroma_correlation.specs.declared.ChromaCorr.{ChromaCorr}
+
+-- "every luma and Cb result is the same"
+pub record SameButCr (a b : ChromaCorr) : Type 0 where
+  pub cb : a .cb ≡ b .cb
+  pub cb-mark : a .«cb_mark» ≡ b .«cb_mark»
