@@ -19,9 +19,8 @@ use Rattle.frame.specs.Planes.{geometryOf}
 use Rattle.frame.specs.Questions.{accepted}
 use Rattle.frame.specs.declared.Shape.{Shape}
 use Rattle.frame.specs.declared.view.Geometry.{Geometry}
-use Rattle.float.specs.Coefficient.{times64}
 use Rattle.float.specs.Round.{halfUp}
-use Rattle.float.specs.Mark.{inside, heldLow, heldHigh, notANumber, markOf, mark, number}
+use Rattle.float.specs.Mark.{inside, heldLow, heldHigh, notANumber, mark, number}
 use Rattle.float.specs.Reading.{marks}
 use Rattle.noise.specs.Seen.{Seen, Over, seen}
 use Rattle.noise.specs.Average.{lumaSeen}
@@ -56,7 +55,7 @@ held-number false true e = omega arith
 held-number false false e = omega arith
 
 number-marked : (x : Float) → isNan x ≡ false → number (mark x) ≡ number notANumber → ⊥
-unfolding isNan mark markOf times64
+unfolding isNan mark
 number-marked nan n e = true≢false n
 number-marked (inf true) n e = omega arith
 number-marked (inf false) n e = omega arith
