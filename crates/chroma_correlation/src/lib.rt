@@ -1,5 +1,6 @@
 // The correlation of a chroma plane's noise with luma's, as a coefficient with its mark.
 use float::Quantised;
+use float::UNQUANTISED;
 use frame::Geometry;
 use frame::Shape;
 ghost use mathlib.Core.Path.{_≡_};
@@ -27,10 +28,7 @@ fn tap(products: i64, squares: i64) -> Quantised
 {
     let energy = std::num::nearest_i64_to_f64(squares) / 16.0;
     if energy <= 1e-9 {
-        return Quantised {
-            coefficient: 0,
-            mark: float::INSIDE,
-        };
+        return UNQUANTISED;
     }
     let cross = std::num::nearest_i64_to_f64(products) / 4.0;
     float::quant_ar(cross / energy)

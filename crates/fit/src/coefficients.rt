@@ -10,18 +10,13 @@ ghost use Rattle.fit.specs.Sums.{Room, exactFit};
 use crate::equations::matrix;
 use crate::equations::right_side;
 use float::Quantised;
-
-// A coefficient that is set to zero without quantising.
-pub const ZERO: Quantised = Quantised {
-    coefficient: 0,
-    mark: float::INSIDE,
-};
+use float::UNQUANTISED;
 
 // Each value quantised.
 fn quantise(x: [f64; 25]) -> [Quantised; 25]
     ensures { λ r. ⌜ r ≡ quantised both x ⌝ }
 {
-    let mut out = [ZERO; 25];
+    let mut out = [UNQUANTISED; 25];
     for i in 0..25 {
         out[i] = float::quant_ar(x[i]);
     }
@@ -47,5 +42,5 @@ pub fn coefficients(
         let values = x.values;
         return quantise(values);
     }
-    [ZERO; 25]
+    [UNQUANTISED; 25]
 }

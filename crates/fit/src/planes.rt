@@ -12,11 +12,11 @@ ghost use Rattle.normal.specs.Normal.{entry};
 ghost use Rattle.fit.specs.Steps.{lumaFit, chromaFit};
 ghost use Rattle.fit.specs.Sums.{exactFit};
 ghost use Rattle.fit.specs.Rooms.{LumaRoom, ComponentRoom, ChromaRoom};
-use crate::coefficients::ZERO;
 use crate::coefficients::coefficients;
 use crate::counts::neighbour_count;
 use crate::counts::sums_size;
 use float::Quantised;
+use float::UNQUANTISED;
 use frame::Geometry;
 use frame::View;
 
@@ -50,7 +50,7 @@ fn luma_coefficients(
     let n = neighbour_count(lag);
     let energy = normal::neighbour_sum(sums, lag, n, n);
     if std::num::nearest_i64_to_f64(energy) <= 0.0 {
-        return [ZERO; 25];
+        return [UNQUANTISED; 25];
     }
     coefficients(sums, taps, 0.0, lag, n)
 }
@@ -61,13 +61,13 @@ pub fn luma_fit(src: &[u16], den: &[u16], view: View, lag: usize) -> [Quantised;
     ensures { λ r. ⌜ r ≡ lumaFit both (seen view (now (src .entry)) (now (den .entry))) lag ⌝ }
 {
     if lag == 0 {
-        return [ZERO; 25];
+        return [UNQUANTISED; 25];
     }
     if view.width <= 2 * lag {
-        return [ZERO; 25];
+        return [UNQUANTISED; 25];
     }
     if view.height <= lag {
-        return [ZERO; 25];
+        return [UNQUANTISED; 25];
     }
     let mut sums = blank_sums();
     let taps = blank_taps();
@@ -135,14 +135,14 @@ pub fn chroma_fit(
     let view = geometry.chroma;
     if view.width <= 2 * lag {
         return Chroma {
-            cb: [ZERO; 25],
-            cr: [ZERO; 25],
+            cb: [UNQUANTISED; 25],
+            cr: [UNQUANTISED; 25],
         };
     }
     if view.height <= lag {
         return Chroma {
-            cb: [ZERO; 25],
-            cr: [ZERO; 25],
+            cb: [UNQUANTISED; 25],
+            cr: [UNQUANTISED; 25],
         };
     }
     let mut cbtaps = blank_taps();

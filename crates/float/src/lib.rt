@@ -15,6 +15,7 @@ pub use quant::HELD_LOW;
 pub use quant::INSIDE;
 pub use quant::NOT_A_NUMBER;
 pub use quant::Quantised;
+pub use quant::UNQUANTISED;
 pub use quant::quant_ar;
 pub use root::sqrt;
 pub use rounding::round;

@@ -23,6 +23,12 @@ pub struct Quantised {
     pub mark: u8,
 }
 
+// A coefficient that is set to zero without quantising.
+pub const UNQUANTISED: Quantised = Quantised {
+    coefficient: 0,
+    mark: INSIDE,
+};
+
 // The mark of c, told by 64c as a whole number that is not yet held to the coefficients' range. As an i32 a NaN is 0, so c is asked.
 fn mark_of(c: f64, whole: i32) -> u8
     requires { ⌜ whole ≡ rounded64 c ⌝ }
