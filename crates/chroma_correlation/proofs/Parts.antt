@@ -6,6 +6,7 @@ use lib.ListN.{length}
 use lib.Ieee.{le}
 use Rattle.laws.specs.Constants.{tiny}
 use Rattle.float.specs.Reading.{Reading, coefficients, marks, both}
+use Rattle.float.proofs.Reading.{part}
 use Rattle.float.specs.declared.quant.Quantised.{Quantised}
 use Rattle.noise.specs.Noise.{Pair}
 use Rattle.noise.specs.Average.{Luma}
@@ -17,13 +18,13 @@ either f false true x y = refl
 either f false false x y = refl
 
 module _ (luma : Luma) (chroma : Pair) where
-  part : {A B : Type 0} (R : Reading A) (f : A → B) → f (corr R luma chroma) ≡ corr (record { of = λ c. f (R .of c); unquantised = f (R .unquantised) }) luma chroma
+  part-told : {A B : Type 0} (R : Reading A) (f : A → B) → f (corr R luma chroma) ≡ corr (part f R) luma chroma
   unfolding corr
-  part R f = either f (eqb (length (chroma .source)) 0) (le (squaresF luma chroma) tiny) _ _
+  part-told R f = either f (eqb (length (chroma .source)) 0) (le (squaresF luma chroma) tiny) _ _
 
   module _ {q : Quantised} (is : q ≡ corr both luma chroma) where
     pub coefficient-is : q .coefficient ≡ corr coefficients luma chroma
-    coefficient-is = ap (λ (p : Quantised). p .coefficient) is ∙ part both (λ p. p .coefficient)
+    coefficient-is = ap (λ (p : Quantised). p .coefficient) is ∙ part-told both (λ p. p .coefficient)
 
     pub mark-is : q .mark ≡ corr marks luma chroma
-    mark-is = ap (λ (p : Quantised). p .mark) is ∙ part both (λ p. p .mark)
+    mark-is = ap (λ (p : Quantised). p .mark) is ∙ part-told both (λ p. p .mark)

@@ -12,5 +12,6 @@ mod Rounded64
 pub mod Coefficient
 pub mod Mark
 mod MarkSteps
+pub mod Reading
 pub mod WholeSigma
 pub mod NearestSigma
