@@ -82,3 +82,23 @@ impl Serialize for ChromaTaps<Coefficient> {
         Marked { numbers, marks }.serialize(to)
     }
 }
+
+#[cfg(test)]
+mod tests {
+    use super::*;
+    use serde_json::{json, to_value};
+
+    #[test]
+    fn every_mark_has_a_name() {
+        let named = |number, mark, name| {
+            let tap = Coefficient { number, mark };
+            let found = to_value(ChromaTaps { cb: tap, cr: tap }).unwrap();
+            let marks = json!({"cb": name, "cr": name});
+            assert_eq!(found, json!({"cb": number, "cr": number, "marks": marks}));
+        };
+        named(127, Mark::Inside, "inside");
+        named(-128, Mark::HeldLow, "held_low");
+        named(127, Mark::HeldHigh, "held_high");
+        named(0, Mark::NotANumber, "nan");
+    }
+}
