@@ -216,14 +216,14 @@ fn the_ends_are_inside() {
                 frame["chroma_taps"],
                 json!({"cb": end, "cr": end, "marks": {"cb": "inside", "cr": name}})
             );
-            for fit in frame["fits"].as_array().unwrap() {
-                assert_eq!(
-                    (&fit["cb"]["luma_tap"], &fit["cr"]["luma_tap"]),
-                    (&json!(end), &json!(end))
-                );
-                assert_eq!(fit["marks"]["cb"]["luma_tap"], "inside");
-                assert_eq!(fit["marks"]["cr"]["luma_tap"], name);
-            }
+            // At a lower lag all of luma's coefficients may be 0, which is no fit.
+            let fit = &frame["fits"][2];
+            assert_eq!(
+                (&fit["cb"]["luma_tap"], &fit["cr"]["luma_tap"]),
+                (&json!(end), &json!(end))
+            );
+            assert_eq!(fit["marks"]["cb"]["luma_tap"], "inside");
+            assert_eq!(fit["marks"]["cr"]["luma_tap"], name);
         }
         for table in tables(&folder, &WORDS) {
             has(
