@@ -1,6 +1,6 @@
 //! The figures of a clip: its frames' figures taken together. Field names are those of the JSON report.
 
-use crate::figures::{ChromaTaps, Fit, Planes, Profile};
+use crate::figures::{ChromaTaps, Fit, MarkCount, Planes, Profile};
 use crate::verdict::Verdict;
 use serde::Serialize;
 
@@ -23,7 +23,10 @@ pub struct ClipFigures {
     pub gates: Option<Planes<GateCount>>,
     /// At lags 1, 2 and 3; `None` where no frame has a fit.
     pub fits: Vec<Option<ClipFit>>,
-    pub chroma_taps: Option<ChromaTaps<Spread>>,
+    pub chroma_taps: Option<ChromaTaps<ClipCoefficient>>,
+    /// By lag from 0, the number of frames in which a plane's coefficients are not all inside; lag 0 has chroma's taps
+    /// without neighbours.
+    pub marked: [Planes<usize>; 4],
     pub verdict: Verdict,
 }
 
@@ -66,10 +69,31 @@ pub struct Spread {
     pub most: f64,
 }
 
+/// A coefficient over the frames, and in how many of them it was held or NaN.
+#[derive(Debug, Clone, Copy, Serialize)]
+pub struct ClipCoefficient {
+    #[serde(flatten)]
+    pub spread: Spread,
+    #[serde(flatten)]
+    pub marks: MarkCount,
+}
+
 #[derive(Debug, Clone, Serialize)]
 pub struct ClipFit {
+    pub lag: u8,
     /// Frames that have a fit at this lag.
     pub fitted: usize,
     #[serde(flatten)]
-    pub fit: Fit<Spread>,
+    pub fit: Fit<ClipCoefficient>,
+}
+
+/// In how many of all frames each plane is counted, in words; `None` where none is.
+pub fn in_frames<'a>(
+    planes: impl Iterator<Item = (&'static str, &'a usize)>,
+    all: usize,
+) -> Option<String> {
+    let counted = planes.filter(|(_, frames)| **frames > 0);
+    let words = counted.map(|(name, frames)| format!("{name} in {frames}"));
+    let words: Vec<_> = words.collect();
+    (!words.is_empty()).then(|| format!("{} of {all} frames", words.join(", ")))
 }

@@ -1,8 +1,10 @@
 //! A clip's figures gathered one frame after another, so that no frame is kept.
 
-use crate::figures::{ChromaTaps, Fit, FrameFigures, Gate, Planes, Profile};
+use crate::figures::{
+    ChromaTaps, Coefficient, Fit, FrameFigures, FrameFit, Gate, MarkCount, Planes, Profile,
+};
 use crate::reel::Reel;
-use crate::summary::{ClipFigures, ClipFit, GateCount, Spread};
+use crate::summary::{ClipCoefficient, ClipFigures, ClipFit, GateCount, Spread};
 use crate::verdict::Verdict;
 
 /// What is gathered of a clip so far.
@@ -12,7 +14,8 @@ pub struct Tally {
     profile: Option<Planes<ProfileTally>>,
     gates: Option<Planes<GateTally>>,
     fits: [Option<FitTally>; 3],
-    taps: Option<ChromaTaps<Running>>,
+    taps: Option<ChromaTaps<CoefficientTally>>,
+    marked: Option<[Planes<usize>; 4]>,
 }
 
 impl Tally {
@@ -32,13 +35,17 @@ impl Tally {
             }
         }
         if let Some(found) = &frame.chroma_taps {
-            let none = || ChromaTaps {
-                cb: Running::default(),
-                cr: Running::default(),
-            };
+            let none = || found.map(|_| CoefficientTally::default());
             let taps = self.taps.get_or_insert_with(none);
-            taps.cb.add(found.cb.into());
-            taps.cr.add(found.cr.into());
+            taps.cb.add(&found.cb);
+            taps.cr.add(&found.cr);
+        }
+        let none = || [(); 4].map(|()| frame.profile.map(|_| 0));
+        let marked = self.marked.get_or_insert_with(none);
+        for (frames, more) in marked.iter_mut().zip(frame.marked()) {
+            if let Some(more) = more {
+                frames.add(&more, |frames, &marked| *frames += usize::from(marked));
+            }
         }
     }
 
@@ -47,12 +54,21 @@ impl Tally {
         let shape = reel.shape();
         let gates = self.gates.as_ref().map(|gates| gates.map(GateTally::count));
         let fit = |tally: &FitTally| ClipFit {
+            lag: tally.lag,
             fitted: tally.fitted,
-            fit: tally.fit.map(Running::spread),
+            fit: tally.fit.map(CoefficientTally::spread),
         };
         let fits: Vec<_> = self.fits.iter().map(|of| of.as_ref().map(fit)).collect();
         let denoised = reel.copy.as_ref().map(|copy| copy.name.clone());
         let profile = self.profile.as_ref()?.map(|of| of.profile(shape.depth));
+        let marked = self.marked.clone()?;
+        let verdict = Verdict::new(
+            &profile,
+            gates.as_ref(),
+            &fits,
+            (&marked, self.reported),
+            denoised.is_some(),
+        );
         Some(ClipFigures {
             name: reel.clip.name.clone(),
             width: shape.width,
@@ -62,15 +78,16 @@ impl Tally {
             from: reel.from(),
             frames: reel.frames(),
             reported: self.reported,
-            chroma_taps: self.taps.as_ref().map(|taps| ChromaTaps {
-                cb: taps.cb.spread(),
-                cr: taps.cr.spread(),
-            }),
-            verdict: Verdict::new(&profile, gates.as_ref(), &fits, denoised.is_some()),
+            chroma_taps: self
+                .taps
+                .as_ref()
+                .map(|taps| taps.map(CoefficientTally::spread)),
+            verdict,
             denoised,
             profile,
             gates,
             fits,
+            marked,
         })
     }
 }
@@ -177,22 +194,45 @@ impl GateTally {
     }
 }
 
+/// A coefficient over the frames so far.
+#[derive(Default)]
+struct CoefficientTally {
+    numbers: Running,
+    marks: MarkCount,
+}
+
+impl CoefficientTally {
+    fn add(&mut self, more: &Coefficient) {
+        self.numbers.add(more.number.into());
+        self.marks += more.mark.into();
+    }
+
+    fn spread(&self) -> ClipCoefficient {
+        ClipCoefficient {
+            spread: self.numbers.spread(),
+            marks: self.marks,
+        }
+    }
+}
+
 /// The coefficients over the frames that have a fit.
 struct FitTally {
+    lag: u8,
     fitted: usize,
-    fit: Fit<Running>,
+    fit: Fit<CoefficientTally>,
 }
 
 impl FitTally {
-    fn none(like: &Fit<i32>) -> Self {
+    fn none(like: &FrameFit) -> Self {
         FitTally {
+            lag: like.lag,
             fitted: 0,
-            fit: like.map(|_| Running::default()),
+            fit: like.fit.map(|_| CoefficientTally::default()),
         }
     }
 
-    fn add(&mut self, more: &Fit<i32>) {
+    fn add(&mut self, more: &FrameFit) {
         self.fitted += 1;
-        self.fit.add(more, |sums, &value| sums.add(value.into()));
+        self.fit.add(&more.fit, CoefficientTally::add);
     }
 }

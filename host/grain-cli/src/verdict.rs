@@ -2,7 +2,7 @@
 //! library's gates'; the lag is the command's own reading of the fits.
 
 use crate::figures::{Planes, Profile};
-use crate::summary::{ClipFit, GateCount, Spread};
+use crate::summary::{ClipFit, GateCount, in_frames};
 use serde::Serialize;
 
 /// A coefficient counts from so many 64ths on, and from so many times what chance makes of none.
@@ -20,6 +20,8 @@ pub struct Verdict {
     /// The least lag that leaves no coefficient out that counts; 0 is white grain.
     pub lag: Option<u8>,
     pub sentence: String,
+    /// Which planes have coefficients at that lag that were held or NaN, in a sentence.
+    pub held: Option<String>,
     /// `None` where a denoised copy was given.
     pub caution: Option<&'static str>,
 }
@@ -29,6 +31,7 @@ impl Verdict {
         profile: &Planes<Profile>,
         gates: Option<&Planes<GateCount>>,
         fits: &[Option<ClipFit>],
+        (marked, reported): (&[Planes<usize>; 4], usize),
         copy_given: bool,
     ) -> Self {
         let caution = (!copy_given).then_some(CAUTION);
@@ -38,6 +41,7 @@ impl Verdict {
                 lag: None,
                 sentence: "No verdict: no frame follows another, and the gates want two."
                     .to_string(),
+                held: None,
                 caution,
             };
         };
@@ -52,6 +56,7 @@ impl Verdict {
                 grain: Some(false),
                 lag: None,
                 sentence: format!("No grain, since in the first pair {why}; {counts}{other}."),
+                held: None,
                 caution,
             };
         }
@@ -67,6 +72,7 @@ impl Verdict {
                 "Grain, by the first pair; {counts}{most}. {because}{}",
                 chroma(gates)
             ),
+            held: held(lag, gates, &marked[usize::from(lag)], reported),
             caution,
         }
     }
@@ -78,24 +84,25 @@ fn lag(
     gates: &Planes<GateCount>,
     fits: &[Option<ClipFit>],
 ) -> (u8, String) {
-    let Some(ClipFit { fit, .. }) = fits.iter().rev().flatten().next() else {
+    let Some(highest) = fits.iter().rev().flatten().next() else {
         return (0, "Lag 0, since there is no fit at any lag.".to_string());
     };
-    let places = grain::ar_positions(fit.lag.into()).expect("a fit has a lag of 1 to 3");
+    let places = grain::ar_positions(highest.lag.into()).expect("a fit has a lag of 1 to 3");
     // How far off each neighbour is, and its mean.
     let mut means: Vec<(u8, f64)> = Vec::new();
     let mut lag = 0;
     for ((name, gate), (_, profile)) in gates.named().zip(profile.named()) {
-        let coefficients = fit.plane(name).map_or(&[][..], |(of, _)| of);
+        let coefficients = highest.fit.plane(name).map_or(&[][..], |(of, _)| of);
         if !gate.first {
             continue;
         }
         let chance = 64.0 / (profile.samples() as f64).sqrt();
         let counts = COUNTS.max(CHANCE * chance);
-        for (&(row, column), Spread { mean, .. }) in places.iter().zip(coefficients) {
+        for (&(row, column), coefficient) in places.iter().zip(coefficients) {
             let ring = row.abs().max(column.abs()) as u8;
-            means.push((ring, mean.abs()));
-            if mean.abs() >= counts {
+            let mean = coefficient.spread.mean.abs();
+            means.push((ring, mean));
+            if mean >= counts {
                 lag = lag.max(ring);
             }
         }
@@ -104,19 +111,34 @@ fn lag(
         let there = means.iter().filter(|(ring, _)| rings.contains(ring));
         there.map(|(_, mean)| *mean).fold(0.0, f64::max)
     };
-    let because = if lag == fit.lag {
+    let because = if lag == highest.lag {
         let outermost = most(lag..=lag);
         format!(
             "Lag {lag}, the highest fitted: its outermost neighbours have up to {outermost:.0}/64."
         )
     } else {
-        let (all, farther) = (fit.lag, most(lag + 1..=fit.lag));
+        let (all, farther) = (highest.lag, most(lag + 1..=highest.lag));
         let white = if lag == 0 { " (white)" } else { "" };
         format!(
             "Lag {lag}{white} is enough, since farther off the lag-{all} fit has at most {farther:.1}/64."
         )
     };
     (lag, because)
+}
+
+/// In how many frames a plane with grain has a coefficient at this lag that was held or NaN.
+fn held(
+    lag: u8,
+    gates: &Planes<GateCount>,
+    marked: &Planes<usize>,
+    reported: usize,
+) -> Option<String> {
+    let planes = gates.named().zip(marked.named());
+    let with_grain = planes.filter(|((_, gate), _)| gate.first);
+    let words = in_frames(with_grain.map(|(_, marked)| marked), reported)?;
+    Some(format!(
+        "At lag {lag} the header can't hold every value: {words}."
+    ))
 }
 
 /// Chroma's own answers.

@@ -3,7 +3,7 @@
 mod common;
 
 use common::{Planes, clip, command, folder, json, on_sample, sample, shapes, written};
-use grain::{Chroma, Format, Pair, Shape, TwoFrames};
+use grain::{Chroma, Format, Mark, Pair, Shape, TwoFrames};
 use serde_json::{Value, json};
 use std::fs;
 use std::io::Write;
@@ -109,11 +109,19 @@ fn frame_figures<'a>(at: usize, frames: &'a [(Planes, Planes)]) -> Value {
         .map(|lag| match grain::fit_ar_lag(&first, lag).unwrap() {
             None => Value::Null,
             Some(fit) => {
-                let split = |list: &[i32]| {
-                    let (tap, list) = list.split_last().unwrap();
-                    chroma(json!({"coefficients": list, "luma_tap": tap}))
+                let planes = |y: Value, cb: Value, cr: Value| {
+                    let split = |list: Value| {
+                        let (tap, list) = list.as_array().unwrap().split_last().unwrap();
+                        chroma(json!({"coefficients": list, "luma_tap": tap}))
+                    };
+                    json!({"y": y, "cb": split(cb), "cr": split(cr)})
                 };
-                json!({"lag": lag, "y": fit.y, "cb": split(&fit.cb), "cr": split(&fit.cr)})
+                let mut found = planes(json!(fit.y), json!(fit.cb), json!(fit.cr));
+                let marks = [fit.y_marks, fit.cb_marks, fit.cr_marks];
+                let [y, cb, cr] = marks.map(|of| of.into_iter().map(mark).collect());
+                found["marks"] = planes(y, cb, cr);
+                found["lag"] = json!(lag);
+                found
             }
         })
         .collect();
@@ -143,8 +151,22 @@ fn frame_figures<'a>(at: usize, frames: &'a [(Planes, Planes)]) -> Value {
         },
         "gates": gates,
         "fits": fits,
-        "chroma_taps": chroma(json!({"cb": taps.cb, "cr": taps.cr})),
+        "chroma_taps": chroma(json!({
+            "cb": taps.cb,
+            "cr": taps.cr,
+            "marks": {"cb": mark(taps.cb_mark), "cr": mark(taps.cr_mark)},
+        })),
     })
+}
+
+/// A mark's name in the report.
+fn mark(of: Mark) -> &'static str {
+    match of {
+        Mark::Inside => "inside",
+        Mark::HeldLow => "held_low",
+        Mark::HeldHigh => "held_high",
+        Mark::NotANumber => "nan",
+    }
 }
 
 fn profile<const BINS: usize>(found: &grain::Profile<BINS>) -> Value {

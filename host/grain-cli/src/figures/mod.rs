@@ -1,14 +1,18 @@
 //! The figures of one frame, and of it and the next. Field names are those of the JSON report (docs/REPORT.md).
 
+mod coefficient;
 mod fit;
 mod gate;
 mod planes;
 mod profile;
+mod taps;
 
-pub use fit::Fit;
+pub use coefficient::{Coefficient, MarkCount};
+pub use fit::{Fit, FrameFit};
 pub use gate::{FRAME_LIMIT, Gate, LEAST_SIGMA, ROW_LIMIT};
 pub use planes::Planes;
 pub use profile::{Bin, Profile};
+pub use taps::ChromaTaps;
 
 use crate::noise::{Autocorrelation, noise};
 use crate::still::{Still, Task};
@@ -27,15 +31,18 @@ pub struct FrameFigures {
     /// Against the next frame; the last has none.
     pub gates: Option<Planes<Gate>>,
     /// At lags 1, 2 and 3; `None` is "no fit".
-    pub fits: Vec<Option<Fit<i32>>>,
-    /// How far chroma's noise follows luma's, in 64ths, where no neighbour has a tap.
-    pub chroma_taps: Option<ChromaTaps<i32>>,
+    pub fits: Vec<Option<FrameFit>>,
+    pub chroma_taps: Option<ChromaTaps<Coefficient>>,
 }
 
-#[derive(Debug, Clone, Copy, Serialize)]
-pub struct ChromaTaps<T> {
-    pub cb: T,
-    pub cr: T,
+impl FrameFigures {
+    /// By lag from 0, the planes in which a coefficient is held or NaN; lag 0 has chroma's taps without neighbours.
+    pub fn marked(&self) -> [Option<Planes<bool>>; 4] {
+        let taps = self.chroma_taps.as_ref().map(ChromaTaps::marked);
+        let [first, second, third] =
+            [0, 1, 2].map(|at| self.fits[at].as_ref().map(FrameFit::marked));
+        [taps, first, second, third]
+    }
 }
 
 /// The figures of a task's frame.
@@ -48,7 +55,7 @@ pub fn figures(task: &Task) -> Result<FrameFigures> {
     let colour = pair.shape().format != Format::Monochrome;
     let fit = |lag| {
         let found = grain::fit_ar_lag(&pair, lag).map_err(asked)?;
-        Ok(found.map(|found| Fit::new(found, colour)))
+        Ok(found.map(|found| FrameFit::new(found, colour)))
     };
     let gates = |second: &Arc<Still>| gate::gates(still, second, &estimate);
     let (source, denoised, depth) = (pair.frame(), pair.denoised(), pair.shape().depth);
@@ -65,10 +72,7 @@ pub fn figures(task: &Task) -> Result<FrameFigures> {
         },
         gates: task.second.as_ref().map(gates).transpose()?,
         fits: (1..=3).map(fit).collect::<Result<_>>()?,
-        chroma_taps: colour.then_some(ChromaTaps {
-            cb: taps.cb,
-            cr: taps.cr,
-        }),
+        chroma_taps: colour.then(|| ChromaTaps::new(taps)),
     })
 }
 

@@ -1,7 +1,9 @@
 //! The fits, each coefficient at its place.
 
+use super::cell::Cell;
 use super::{COLUMNS, line};
 use crate::figures::Fit;
+use console::{Alignment, measure_text_width, pad_str};
 
 /// One plane's coefficients at one lag, as they are shown.
 struct Shown {
@@ -10,11 +12,11 @@ struct Shown {
 }
 
 impl Shown {
-    fn new<T>(fit: Option<&Fit<T>>, plane: &str, word: fn(&T) -> String) -> Option<Self> {
+    fn new(fit: Option<&Fit<Cell>>, plane: &str) -> Option<Self> {
         let (coefficients, luma_tap) = fit?.plane(plane)?;
         Some(Shown {
-            coefficients: coefficients.iter().map(word).collect(),
-            luma_tap: luma_tap.map(word),
+            coefficients: coefficients.iter().map(Cell::shown).collect(),
+            luma_tap: luma_tap.map(Cell::shown),
         })
     }
 }
@@ -24,17 +26,13 @@ type Plane<'a> = (&'a str, [Option<Shown>; 3]);
 
 /// The lags side by side, each coefficient where its neighbour lies before the sample itself, and a chroma plane's luma
 /// tap below that. Where three don't fit into the columns, lag 3 comes below.
-pub fn show<T>(
-    out: &mut String,
-    fits: [Option<&Fit<T>>; 3],
-    planes: &[&str],
-    word: fn(&T) -> String,
-) {
-    let shown = |plane: &str| fits.map(|fit| Shown::new(fit, plane, word));
+pub fn show(out: &mut String, fits: &[Option<Fit<Cell>>; 3], planes: &[&str]) {
+    let shown = |plane: &str| [0, 1, 2].map(|at| Shown::new(fits[at].as_ref(), plane));
     let planes: Vec<Plane> = planes.iter().map(|plane| (*plane, shown(plane))).collect();
     let words = planes.iter().flat_map(|(_, fits)| fits.iter().flatten());
     let words = words.flat_map(|fit| fit.coefficients.iter().chain(&fit.luma_tap));
-    let cell = 1 + words.map(|word| word.len()).max().unwrap_or(0).max(3);
+    let widths = words.map(|word| measure_text_width(word));
+    let cell = 1 + widths.max().unwrap_or(0).max(3);
     line(out, "  fits, in 64ths; · is the sample itself");
     let wide = HEAD + (1..=3).map(|lag| block(lag, cell)).sum::<usize>() - GAP > COLUMNS;
     let groups: &[&[usize]] = if wide {
@@ -61,8 +59,9 @@ fn group(out: &mut String, lags: &[usize], planes: &[Plane], cell: usize) {
     let side_by_side = |of: &dyn Fn(usize) -> Vec<String>| -> String {
         let one = |&lag: &usize| {
             let words = of(lag);
-            let words: String = words.iter().map(|w| format!("{w:>cell$}")).collect();
-            format!("{words:<w$}", w = block(lag, cell))
+            let padded = |word| pad_str(word, cell, Alignment::Right, None);
+            let words: String = words.iter().map(|word| padded(word)).collect();
+            pad_str(&words, block(lag, cell), Alignment::Left, None).into_owned()
         };
         lags.iter().map(one).collect()
     };

@@ -1,12 +1,15 @@
 //! The report as a person reads it, at most 80 columns wide.
 
+mod cell;
 mod fits;
 mod gates;
+mod legend;
 mod profile;
 
-use crate::figures::{ChromaTaps, FrameFigures};
-use crate::summary::{ClipFigures, Spread};
+use crate::figures::{ChromaTaps, Fit, FrameFigures};
+use crate::summary::ClipFigures;
 use crate::words::{shorten, wrapped};
+use cell::Cell;
 use console::style;
 use std::fmt::Write;
 
@@ -19,10 +22,10 @@ pub fn frame(figures: &FrameFigures, depth: u8) -> String {
     line(&mut out, style(head).bold());
     profile::show(&mut out, &figures.profile, depth);
     gates::of_frame(&mut out, figures);
-    let lags = [0, 1, 2].map(|at| figures.fits[at].as_ref());
+    let fits = [0, 1, 2].map(|at| Some(figures.fits[at].as_ref()?.fit.map(Cell::of_frame)));
+    let taps = figures.chroma_taps.map(|taps| taps.map(Cell::of_frame));
     let planes: Vec<_> = figures.profile.named().map(|(name, _)| name).collect();
-    fits::show(&mut out, lags, &planes, i32::to_string);
-    taps(&mut out, &figures.chroma_taps, i32::to_string);
+    coefficients(&mut out, &fits, taps, &planes, legend::OF_FRAME);
     out.push('\n');
     out
 }
@@ -38,15 +41,17 @@ pub fn clip(clip: &ClipFigures) -> String {
     line(&mut out, format!("  denoised copy: {copy}"));
     profile::show(&mut out, &clip.profile, clip.depth);
     gates::of_clip(&mut out, clip.gates.as_ref());
-    let lags = [0, 1, 2].map(|at| clip.fits[at].as_ref().map(|of| &of.fit));
+    let fits = [0, 1, 2].map(|at| Some(clip.fits[at].as_ref()?.fit.map(Cell::of_clip)));
+    let taps = clip.chroma_taps.map(|taps| taps.map(Cell::of_clip));
     let planes: Vec<_> = clip.profile.named().map(|(name, _)| name).collect();
-    fits::show(&mut out, lags, &planes, mean);
-    taps(&mut out, &clip.chroma_taps, mean);
+    coefficients(&mut out, &fits, taps, &planes, legend::OF_CLIP);
+    legend::frames(&mut out, clip);
     out.push('\n');
     let verdict = &clip.verdict;
     let sentence = format!("Verdict: {}", verdict.sentence);
     line(&mut out, style(wrapped(&sentence, COLUMNS, "")).bold());
-    if let Some(caution) = verdict.caution {
+    let cautions = [verdict.held.as_deref(), verdict.caution];
+    for caution in cautions.into_iter().flatten() {
         line(&mut out, wrapped(caution, COLUMNS, ""));
     }
     out
@@ -62,14 +67,20 @@ fn head(clip: &ClipFigures) -> String {
     format!("{}: {about}", shorten(&clip.name, room))
 }
 
-/// The mean to the nearest whole number, without a sign at 0.
-fn mean(of: &Spread) -> String {
-    (of.mean.round() as i32).to_string()
-}
-
-fn taps<T>(out: &mut String, taps: &Option<ChromaTaps<T>>, word: fn(&T) -> String) {
-    if let Some(ChromaTaps { cb, cr }) = taps {
-        let (cb, cr) = (word(cb), word(cr));
+/// The fits at lags 1, 2 and 3, the taps, and what the marks among them mean.
+fn coefficients(
+    out: &mut String,
+    fits: &[Option<Fit<Cell>>; 3],
+    taps: Option<ChromaTaps<Cell>>,
+    planes: &[&str],
+    meanings: [&str; 3],
+) {
+    fits::show(out, fits, planes);
+    if let Some(ChromaTaps { cb, cr }) = &taps {
+        let (cb, cr) = (cb.shown(), cr.shown());
         line(out, format!("  taps without neighbours: Cb {cb}, Cr {cr}"));
     }
+    let taps = taps.iter().flat_map(|taps| [&taps.cb, &taps.cr]);
+    let all = fits.iter().flatten().flat_map(Fit::iter).chain(taps);
+    legend::show(out, all, meanings);
 }
