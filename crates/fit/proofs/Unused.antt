@@ -6,14 +6,11 @@ use Prim.Native.Nat.{ℕ, _≤_}
 use native.Mathlib.Nat.{lt-of-lt-of-le}
 use native.Mathlib.Omega.{arith}
 use lib.Dec.{lit≤}
-use lib.IntN.{pos}
 use lib.ListN.{getD, replicate, getD-replicate}
-use lib.Ieee.{mul, round, ofBits, toSigned}
 use Rattle.laws.specs.Scaled.{plusZero}
 use Rattle.laws.proofs.Table.{getD-tabulate}
-use Rattle.float.specs.Mark.{mark, number, inside}
 use Rattle.float.specs.Reading.{Reading, coefficients, marks}
-use Rattle.float.specs.Steps.{quantAr}
+use Rattle.float.proofs.Reading.{zero-coefficient, zero-mark}
 use Rattle.frame.specs.Calls.{orderRefusal}
 use Rattle.frame.specs.declared.Shape.{Shape}
 use Rattle.noise.specs.Average.{Luma}
@@ -28,14 +25,6 @@ use Rattle.fit.specs.Steps.{neighbourOf, withTap, zeros, quantised, solv
 use Rattle.fit.specs.Answer.{firstOf, lumaFirst, lumaOf, planeOf, fitAnswer}
 use Rattle.fit.specs.Words.{ZeroFrom, UnusedZero}
 use Rattle.fit.proofs.EachFit.{luma-case, chroma-case, answer-case}
-
-quant-zero : quantAr plusZero ≡ pos 0
-unfolding quantAr mul round ofBits toSigned
-quant-zero = refl
-
-mark-zero : mark plusZero ≡ inside
-unfolding mark ofBits
-mark-zero = refl
 
 -- by a reading to which plus zero is as if it were not quantised
 module _ {A : Type 0} (R : Reading A) (zero : R .of plusZero ≡ R .unquantised) where
@@ -75,22 +64,21 @@ module _ {A : Type 0} (R : Reading A) (zero : R .of plusZero ≡ R .unquantised)
 -- the answer of any call
 pub unused-zero : (s : Shape) (y cb cr y-denoised cb-denoised cr-denoised : List ℕ) (lag : ℕ) → UnusedZero lag (fitAnswer s y cb cr y-denoised cb-denoised cr-denoised lag)
 unused-zero s y cb cr y-denoised cb-denoised cr-denoised lag =
-    let m = ap number mark-zero in
     answer-case (UnusedZero lag)
     (λ n. record {
-      luma = none-24 coefficients quant-zero (neighbours lag);
-      cb = zeros-zero coefficients quant-zero (factors lag) 25 (lit≤ tt);
-      cr = zeros-zero coefficients quant-zero (factors lag) 25 (lit≤ tt);
-      luma-marks = none-24 marks m (neighbours lag);
-      cb-marks = zeros-zero marks m (factors lag) 25 (lit≤ tt);
-      cr-marks = zeros-zero marks m (factors lag) 25 (lit≤ tt);
+      luma = none-24 coefficients zero-coefficient (neighbours lag);
+      cb = zeros-zero coefficients zero-coefficient (factors lag) 25 (lit≤ tt);
+      cr = zeros-zero coefficients zero-coefficient (factors lag) 25 (lit≤ tt);
+      luma-marks = none-24 marks zero-mark (neighbours lag);
+      cb-marks = zeros-zero marks zero-mark (factors lag) 25 (lit≤ tt);
+      cr-marks = zeros-zero marks zero-mark (factors lag) 25 (lit≤ tt);
     })
     s y cb cr y-denoised cb-denoised cr-denoised lag
     (record {
-      luma = luma-unused coefficients quant-zero (lumaOf s y y-denoised) lag;
-      cb = chroma-unused coefficients quant-zero (lumaOf s y y-denoised) (planeOf s cb cb-denoised) lag;
-      cr = chroma-unused coefficients quant-zero (lumaOf s y y-denoised) (planeOf s cr cr-denoised) lag;
-      luma-marks = luma-unused marks m (lumaOf s y y-denoised) lag;
-      cb-marks = chroma-unused marks m (lumaOf s y y-denoised) (planeOf s cb cb-denoised) lag;
-      cr-marks = chroma-unused marks m (lumaOf s y y-denoised) (planeOf s cr cr-denoised) lag;
+      luma = luma-unused coefficients zero-coefficient (lumaOf s y y-denoised) lag;
+      cb = chroma-unused coefficients zero-coefficient (lumaOf s y y-denoised) (planeOf s cb cb-denoised) lag;
+      cr = chroma-unused coefficients zero-coefficient (lumaOf s y y-denoised) (planeOf s cr cr-denoised) lag;
+      luma-marks = luma-unused marks zero-mark (lumaOf s y y-denoised) lag;
+      cb-marks = chroma-unused marks zero-mark (lumaOf s y y-denoised) (planeOf s cb cb-denoised) lag;
+      cr-marks = chroma-unused marks zero-mark (lumaOf s y y-denoised) (planeOf s cr cr-denoised) lag;
     })
