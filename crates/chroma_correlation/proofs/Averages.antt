@@ -24,6 +24,7 @@ use Rattle.laws.proofs.Is.{sfits}
 use Rattle.laws.proofs.Table.{getD-tabulate}
 use Rattle.frame.specs.declared.view.Geometry.{Geometry}
 use Rattle.frame.proofs.Viewed.{viewed-length}
+use Rattle.float.specs.Reading.{Reading}
 use Rattle.noise.specs.Noise.{Pair, noiseOf}
 use Rattle.noise.specs.Seen.{Seen, Over, seen, sumOver}
 use Rattle.noise.specs.Average.{Luma, lumaSeen, quarters}
@@ -55,9 +56,9 @@ nothing (pos n) h = ap pos (le-antisymm h zero-le)
 nothing (negsuc n) h = absurd (not-suc-le-zero h)
 
 -- no squares are at most 1e-9
-flat : (products : ℤ) → tapOf products (pos 0) ≡ pos 0
+flat : {A : Type 0} (R : Reading A) (products : ℤ) → tapOf R products (pos 0) ≡ R .unquantised
 unfolding tapOf ofScaled le round
-flat products = refl
+flat R products = refl
 
 -- ---- lag 0
 pub window-0 : (w h : ℕ) → Window w h 0
@@ -99,10 +100,10 @@ module _ {g : Geometry} (O : Over g) {y y-denoised : List ℕ} (L : Seen (g .lum
   abbrev squares : ℤ
   squares = tapSquare (quarters luma) (g .chroma .width) (g .chroma .height) 0
 
-  products-small : natAbs products ≤ 2 ^ 53
+  pub products-small : natAbs products ≤ 2 ^ 53
   products-small = le-trans (tap-bound O L S (window-0 _ _) 0 (lit< tt)) (lit≤ tt)
 
-  squares-small : natAbs squares ≤ 2 ^ 53
+  pub squares-small : natAbs squares ≤ 2 ^ 53
   squares-small = le-trans (square-bound O L S (window-0 _ _)) (lit≤ tt)
 
   squares-exact : squaresF luma chroma ≡ ofScaled 4 squares
@@ -117,16 +118,16 @@ module _ {g : Geometry} (O : Over g) {y y-denoised : List ℕ} (L : Seen (g .lum
       products-sum planeLimit sampleLimit luma chroma (tap-over O y y-denoised source denoised 0) (frame-held (average luma) (average luma)) (luma-limited O L) (seen-samples S)
       ∙ ap (ofScaled 2) (sym (sample-tap _ _ (noiseOf chroma) (quarters luma) ∙ window-whole _ _ (quarters luma) (noiseOf chroma)))
 
-  tap-when : (b : Bool) → eqb (length (chroma .source)) 0 ≡ b → tapOf products squares ≡ corr luma chroma
+  tap-when : {A : Type 0} (R : Reading A) (b : Bool) → eqb (length (chroma .source)) 0 ≡ b → tapOf R products squares ≡ corr R luma chroma
   unfolding corr tapOf
-  tap-when true t =
-      ap (λ (z : ℤ). tapOf products z) (window-empty _ _ (quarters luma) (quarters luma) (sym (viewed-length (g .chroma) source) ∙ eqb-true (length (chroma .source)) 0 t))
-      ∙ flat products
+  tap-when R true t =
+      ap (λ (z : ℤ). tapOf R products z) (window-empty _ _ (quarters luma) (quarters luma) (sym (viewed-length (g .chroma) source) ∙ eqb-true (length (chroma .source)) 0 t))
+      ∙ flat R products
       ∙ rw t
-  tap-when false t = rw (t, squares-exact, products-exact)
+  tap-when R false t = rw (t, squares-exact, products-exact)
 
-  pub tap-is : tapOf products squares ≡ corr luma chroma
-  tap-is = tap-when (eqb (length (chroma .source)) 0) refl
+  pub tap-is : {A : Type 0} (R : Reading A) → tapOf R products squares ≡ corr R luma chroma
+  tap-is R = tap-when R (eqb (length (chroma .source)) 0) refl
 
   -- ---- the sums, out of what `normal::tap_sums` leaves: a list of one sum, and the squares
   module _ {taps : List ℤ} {sixteenths : ℤ} (taps-are : taps ≡ tabulate (factors 0) entries) (squares-are : sixteenths ≡ squares) where
@@ -139,5 +140,5 @@ module _ {g : Geometry} (O : Over g) {y y-denoised : List ℕ} (L : Seen (g .lum
     pub sums-small : (natAbs (toZ w64 (ofZ w64 (getD taps 0 (pos 0)))) ≤ 2 ^ 53) × (natAbs (toZ w64 (ofZ w64 sixteenths)) ≤ 2 ^ 53)
     sums-small = (le-trans (le-of-eq (ap natAbs products-held)) products-small, le-trans (le-of-eq (ap natAbs squares-held)) squares-small)
 
-    pub tap-held : tapOf (toZ w64 (ofZ w64 (getD taps 0 (pos 0)))) (toZ w64 (ofZ w64 sixteenths)) ≡ corr luma chroma
-    tap-held = (λ i. tapOf (products-held i) (squares-held i)) ∙ tap-is
+    pub tap-held : {A : Type 0} (R : Reading A) → tapOf R (toZ w64 (ofZ w64 (getD taps 0 (pos 0)))) (toZ w64 (ofZ w64 sixteenths)) ≡ corr R luma chroma
+    tap-held R = (λ i. tapOf R (products-held i) (squares-held i)) ∙ tap-is R

@@ -1,6 +1,9 @@
 pub mod Averages
 pub mod Taps
+pub mod Parts
 pub mod Answers
 pub mod OnlyCr
+pub mod SetToZero
+pub mod NeverNaN
 pub mod Demand
 pub mod OnePass

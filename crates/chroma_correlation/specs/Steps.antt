@@ -2,13 +2,12 @@
 -- The closure `corr` of `fit_chroma_corr`: rows and columns in order, each sum from 0.0 and here by a loop of its own.
 use mathlib.Core.Bool.{cond}
 use lib.Dec.{eqb}
-use lib.IntN.{ℤ, pos}
 use lib.ListN.{length}
 use lib.Ieee.{Float, binary64, add, div, le}
 use Rattle.laws.specs.Constants.{tiny}
 use Rattle.laws.specs.Loop.{loop}
 use Rattle.laws.specs.Scaled.{plusZero}
-use Rattle.float.specs.Steps.{quantAr}
+use Rattle.float.specs.Reading.{Reading}
 use Rattle.noise.specs.Noise.{Pair}
 use Rattle.noise.specs.Average.{Luma}
 use Rattle.noise.specs.Products.{own, average, productF}
@@ -30,8 +29,8 @@ onePass luma chroma =
     (λ x (s : Float × Float). (add binary64 (s .0) (productF (average luma) (average luma) (y, x)), add binary64 (s .1) (productF (average luma) (own chroma) (y, x)))))
     (plusZero, plusZero)
 
--- `if s_ll <= 1e-9 { 0 } else { quant_ar(s_lc / s_ll) }`, and 0 of an empty plane
-unfoldable pub corr : Luma → Pair → ℤ
-corr luma chroma =
-    cond (eqb (length (chroma .source)) 0) (pos 0)
-    (cond (le (squaresF luma chroma) tiny) (pos 0) (quantAr (div binary64 (productsF luma chroma) (squaresF luma chroma))))
+-- by the reading `coefficients`: `if s_ll <= 1e-9 { 0 } else { quant_ar(s_lc / s_ll) }`, and 0 of an empty plane
+unfoldable pub corr : {A : Type 0} → Reading A → Luma → Pair → A
+corr R luma chroma =
+    cond (eqb (length (chroma .source)) 0) (R .unquantised)
+    (cond (le (squaresF luma chroma) tiny) (R .unquantised) (R .of (div binary64 (productsF luma chroma) (squaresF luma chroma))))

@@ -20,6 +20,7 @@ use Rattle.laws.specs.Scaled.{ofScaled}
 use Rattle.laws.specs.Table.{tabulate}
 use Rattle.laws.proofs.Is.{sfits}
 use Rattle.laws.proofs.Table.{length-tabulate}
+use Rattle.float.specs.Reading.{Reading}
 use Rattle.frame.specs.declared.view.Geometry.{Geometry}
 use Rattle.frame.proofs.Viewed.{viewed-length}
 use Rattle.noise.specs.Noise.{Pair, noiseOf}
@@ -44,12 +45,12 @@ any : (b : Bool) → (b || true) ≡ true
 any true = refl
 any false = refl
 
-module _ (l : Luma) (plane : Pair) (lag : ℕ) where
-  pub narrow : plane .width ≤ 2 * lag → zeros ≡ chromaFit l plane lag
+module _ {A : Type 0} (R : Reading A) (l : Luma) (plane : Pair) (lag : ℕ) where
+  pub narrow : plane .width ≤ 2 * lag → zeros R ≡ chromaFit R l plane lag
   unfolding chromaFit
   narrow a = rw (le-leb (plane .width) (2 * lag) a, any (eqb (length (plane .source)) 0))
 
-  pub short : plane .height ≤ lag → zeros ≡ chromaFit l plane lag
+  pub short : plane .height ≤ lag → zeros R ≡ chromaFit R l plane lag
   unfolding chromaFit
   short a = rw (le-leb (plane .height) lag a, any (leb (plane .width) (2 * lag)), any (eqb (length (plane .source)) 0))
 
@@ -59,11 +60,11 @@ module _ (l : Luma) (plane : Pair) (lag : ℕ) where
         → (taps : ℕ → ℤ) → ((i : ℕ) → i < factors lag → taps i ≡ tapEntry (noiseOf plane) (quarters l) (plane .width) (plane .height) lag i)
         → ((i : ℕ) → i < factors lag → natAbs (tapEntry (noiseOf plane) (quarters l) (plane .width) (plane .height) lag i) ≤ 2 ^ 53)
         → (squares : Float) → squares ≡ ofScaled 4 (tapSquare (quarters l) (plane .width) (plane .height) lag)
-        → (r : List ℤ) → r ≡ exactFit entries taps squares lag (factors lag) → r ≡ chromaFit l plane lag
+        → (r : List A) → r ≡ exactFit R entries taps squares lag (factors lag) → r ≡ chromaFit R l plane lag
     unfolding chromaFit
     solved entries are taps taken small squares e r d =
         rw (ne-eqb (length (plane .source)) 0 full, lt-leb (plane .width) (2 * lag) wide, lt-leb (plane .height) lag high)
-        (d ∙ chroma-exact plane lag S entries are l L T taps squares taken small e)
+        (d ∙ chroma-exact plane lag S entries are l L T R taps squares taken small e)
       where
         columns : 0 < plane .width
         columns = omega arith
@@ -99,10 +100,10 @@ module _ {g : Geometry} (O : Over g) {y y-denoised source denoised : List ℕ} (
       ap (λ (t : Float). div binary64 t sixteen) (d ∙ ap (λ (k : ℤ). ofInt binary64 (toZ w64 (ofZ w64 k))) e ∙ ap (ofInt binary64) (toZ-ofZ w64 squared (sfits w64 squared (lt-of-le-of-lt b (lit< tt)))))
       ∙ divided 4 squared sixteen b sixteen-value
 
-  pub component-fit : (z : ℤ) → z ≡ squared → (x : Float) → x ≡ ofInt binary64 (toZ w64 (ofZ w64 z)) → (taps : List ℤ) → taps ≡ tabulate (factors lag) tapped
-      → (r : List ℤ) → r ≡ exactFit (entry (noiseOf plane) (plane .width) (plane .height) lag) (at taps) (div binary64 x sixteen) lag (factors lag) → r ≡ chromaFit luma plane lag
-  component-fit z e x d taps t r f =
-      solved luma plane lag (viewed-length (g .chroma) source) wide high (seen-samples S) (luma-limited O L) (tap-over O y y-denoised source denoised lag)
+  pub component-fit : {A : Type 0} (R : Reading A) (z : ℤ) → z ≡ squared → (x : Float) → x ≡ ofInt binary64 (toZ w64 (ofZ w64 z)) → (taps : List ℤ) → taps ≡ tabulate (factors lag) tapped
+      → (r : List A) → r ≡ exactFit R (entry (noiseOf plane) (plane .width) (plane .height) lag) (at taps) (div binary64 x sixteen) lag (factors lag) → r ≡ chromaFit R luma plane lag
+  component-fit R z e x d taps t r f =
+      solved R luma plane lag (viewed-length (g .chroma) source) wide high (seen-samples S) (luma-limited O L) (tap-over O y y-denoised source denoised lag)
       (entry (noiseOf plane) (plane .width) (plane .height) lag) (λ i j a b. refl) (at taps) (line-entry (factors lag) tapped t)
       (λ i k. le-trans (tap-bound O L S held i k) (lit≤ tt)) (div binary64 x sixteen) (in-sixteenths z e x d) r f
 

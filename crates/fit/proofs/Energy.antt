@@ -2,7 +2,7 @@
 use mathlib.Core.Path.{_≡_, sym, ap, _∙_}
 use mathlib.Core.Bool.{true}
 use Prim.Native.Nat.{ℕ, _+_, _^_, _≤_}
-use lib.IntN.{ℤ, pos, natAbs}
+use lib.IntN.{pos, natAbs}
 use lib.Signed.{_≤ℤ_}
 use lib.Ieee.{Float, binary64, le, ofInt}
 use Rattle.laws.specs.Limits.{planeLimit, sampleLimit}

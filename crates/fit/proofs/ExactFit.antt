@@ -11,6 +11,7 @@ use Rattle.laws.specs.Constants.{four}
 use Rattle.laws.proofs.Constants.{four-value}
 use Rattle.laws.specs.Scaled.{ofScaled}
 use Rattle.laws.specs.Limits.{planeLimit, sampleLimit}
+use Rattle.float.specs.Reading.{Reading}
 use Rattle.noise.specs.Noise.{Pair, noiseOf}
 use Rattle.noise.specs.Average.{Luma, quarters}
 use Rattle.noise.specs.Products.{own, average}
@@ -48,10 +49,10 @@ module _ (plane : Pair) (lag : ℕ) (S : Limited planeLimit sampleLimit (own pla
     read-own : (i : ℕ) → i ≤ n → ofInt binary64 (entries i n) ≡ fitF plane lag (neighbourOf plane lag i) (own plane)
     read-own i a = read i n a (omega arith) ∙ ap (fitF plane lag (neighbourOf plane lag i)) (last-own plane lag)
 
-    pub luma-exact : (taps : ℕ → ℤ) (squares : Float) → exactFit entries taps squares lag n ≡ coefficientsOf (solvedFit plane lag (neighbourOf plane lag) n)
+    pub luma-exact : {A : Type 0} (R : Reading A) (taps : ℕ → ℤ) (squares : Float) → exactFit R entries taps squares lag n ≡ coefficientsOf R (solvedFit plane lag (neighbourOf plane lag) n)
     unfolding exactFit solvedFit cellSum rightSum
-    luma-exact taps squares =
-        λ t. coefficientsOf (solvedOf (matrix-same (cellSum entries taps squares lag) _ n cells t) (right-same (rightSum entries taps lag) _ n values t) n)
+    luma-exact R taps squares =
+        λ t. coefficientsOf R (solvedOf (matrix-same (cellSum entries taps squares lag) _ n cells t) (right-same (rightSum entries taps lag) _ n values t) n)
       where
         cells : (i j : ℕ) → i ≤ j → j < n → cellSum entries taps squares lag i j ≡ fitF plane lag (neighbourOf plane lag i) (neighbourOf plane lag j)
         cells i j a b = rw (lt-ltb j n b) (read i j (omega arith) (omega arith))
@@ -64,13 +65,13 @@ module _ (plane : Pair) (lag : ℕ) (S : Limited planeLimit sampleLimit (own pla
       abbrev exactTap : ℕ → ℤ
       exactTap i = tapEntry (noiseOf plane) (quarters l) (plane .width) (plane .height) lag i
 
-      pub chroma-exact : (taps : ℕ → ℤ) (squares : Float) → ((i : ℕ) → i < factors lag → taps i ≡ exactTap i)
+      pub chroma-exact : {A : Type 0} (R : Reading A) (taps : ℕ → ℤ) (squares : Float) → ((i : ℕ) → i < factors lag → taps i ≡ exactTap i)
           → ((i : ℕ) → i < factors lag → natAbs (exactTap i) ≤ 2 ^ 53)
           → squares ≡ ofScaled 4 (tapSquare (quarters l) (plane .width) (plane .height) lag)
-          → exactFit entries taps squares lag (factors lag) ≡ coefficientsOf (solvedFit plane lag (withTap l plane lag) (factors lag))
+          → exactFit R entries taps squares lag (factors lag) ≡ coefficientsOf R (solvedFit plane lag (withTap l plane lag) (factors lag))
       unfolding exactFit solvedFit cellSum rightSum
-      chroma-exact taps squares e small d =
-          λ t. coefficientsOf (solvedOf (matrix-same (cellSum entries taps squares lag) _ (factors lag) cells t) (right-same (rightSum entries taps lag) _ (factors lag) values t) (factors lag))
+      chroma-exact R taps squares e small d =
+          λ t. coefficientsOf R (solvedOf (matrix-same (cellSum entries taps squares lag) _ (factors lag) cells t) (right-same (rightSum entries taps lag) _ (factors lag) values t) (factors lag))
         where
           tap-read : (i : ℕ) → i < factors lag → div binary64 (ofInt binary64 (taps i)) four ≡ ofScaled 2 (exactTap i)
           tap-read i k = ap (λ (z : ℤ). div binary64 (ofInt binary64 z) four) (e i k) ∙ divided 2 _ four (small i k) four-value

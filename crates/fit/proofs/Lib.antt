@@ -7,10 +7,12 @@ pub mod ExactFit
 pub mod Rooms
 pub mod LumaSteps
 pub mod ChromaSteps
+pub mod Readings
 pub mod Answers
 pub mod Energy
 pub mod NoFit
 pub mod EachFit
+pub mod Carried
 pub mod NoChroma
 pub mod OnlyCr
 pub mod Range

@@ -12,6 +12,7 @@ use mir.ValLaws.{toZ-ofZ}
 use borrow.Author.Tests.{eq-eqb, ne-eqb, le-leb, lt-leb}
 use Rattle.laws.specs.Scaled.{plusZero}
 use Rattle.laws.specs.Limits.{planeLimit, sampleLimit}
+use Rattle.float.specs.Reading.{Reading}
 use Rattle.noise.specs.Noise.{Pair, noiseOf}
 use Rattle.noise.specs.Products.{own}
 use Rattle.noise.specs.Claim.{Limited}
@@ -23,37 +24,37 @@ use Rattle.fit.specs.Steps.{zeros, energyF, lumaFit}
 use Rattle.fit.specs.Sums.{exactFit}
 use Rattle.fit.proofs.ExactFit.{energy-exact, luma-exact}
 
-module _ (plane : Pair) (lag : ℕ) where
-  pub lag-zero : lag ≡ 0 → zeros ≡ lumaFit plane lag
+module _ {A : Type 0} (R : Reading A) (plane : Pair) (lag : ℕ) where
+  pub lag-zero : lag ≡ 0 → zeros R ≡ lumaFit R plane lag
   unfolding lumaFit
   lag-zero e = rw (eq-eqb lag 0 e)
 
   module _ (some : lag ≡ 0 → ⊥) where
-    pub narrow : plane .width ≤ 2 * lag → zeros ≡ lumaFit plane lag
+    pub narrow : plane .width ≤ 2 * lag → zeros R ≡ lumaFit R plane lag
     unfolding lumaFit
     narrow a = rw (ne-eqb lag 0 some, le-leb (plane .width) (2 * lag) a)
 
     module _ (wide : 2 * lag < plane .width) where
-      pub short : plane .height ≤ lag → zeros ≡ lumaFit plane lag
+      pub short : plane .height ≤ lag → zeros R ≡ lumaFit R plane lag
       unfolding lumaFit
       short b = rw (ne-eqb lag 0 some, lt-leb (plane .width) (2 * lag) wide, le-leb (plane .height) lag b)
 
       module _ (high : lag < plane .height) (x : Float) (energy : x ≡ energyF plane lag) where
-        pub flat : le x plusZero ≡ true → zeros ≡ lumaFit plane lag
+        pub flat : le x plusZero ≡ true → zeros R ≡ lumaFit R plane lag
         unfolding lumaFit
         flat t = rw (ne-eqb lag 0 some, lt-leb (plane .width) (2 * lag) wide, lt-leb (plane .height) lag high, ← energy, t)
 
         pub solved : le x plusZero ≡ false → Limited planeLimit sampleLimit (own plane)
             → (entries : ℕ → ℕ → ℤ) → ((i j : ℕ) → i < factors lag → j < factors lag → entries i j ≡ entry (noiseOf plane) (plane .width) (plane .height) lag i j)
-            → (taps : ℕ → ℤ) (squares : Float) (p : ℕ) → p ≡ neighbours lag → (r : List ℤ) → r ≡ exactFit entries taps squares lag p
-            → r ≡ lumaFit plane lag
+            → (taps : ℕ → ℤ) (squares : Float) (p : ℕ) → p ≡ neighbours lag → (r : List A) → r ≡ exactFit R entries taps squares lag p
+            → r ≡ lumaFit R plane lag
         unfolding lumaFit
         solved t S entries are taps squares p e r d =
             rw (ne-eqb lag 0 some, lt-leb (plane .width) (2 * lag) wide, lt-leb (plane .height) lag high, ← energy, t)
-            (d ∙ ap (exactFit entries taps squares lag) e ∙ luma-exact plane lag S entries are taps squares)
+            (d ∙ ap (exactFit R entries taps squares lag) e ∙ luma-exact plane lag S entries are R taps squares)
 
-  -- the energy, read from the sums
-  pub energy-read : Limited planeLimit sampleLimit (own plane) → (sums : List ℤ) → NeighbourSums plane lag sums → (n : ℕ) → n ≡ neighbours lag
-      → (z : ℤ) → SFits w64 z → z ≡ sumAt sums lag n n → (x : Float) → x ≡ ofInt binary64 (toZ w64 (ofZ w64 z)) → x ≡ energyF plane lag
-  energy-read S sums N n e z f r x d =
-      d ∙ energy-exact plane lag S (toZ-ofZ w64 z f ∙ r ∙ (λ t. sumAt sums lag (e t) (e t)) ∙ N .entries (neighbours lag) (neighbours lag) (omega arith) (omega arith))
+-- the energy, read from the sums
+pub energy-read : (plane : Pair) (lag : ℕ) → Limited planeLimit sampleLimit (own plane) → (sums : List ℤ) → NeighbourSums plane lag sums → (n : ℕ) → n ≡ neighbours lag
+    → (z : ℤ) → SFits w64 z → z ≡ sumAt sums lag n n → (x : Float) → x ≡ ofInt binary64 (toZ w64 (ofZ w64 z)) → x ≡ energyF plane lag
+energy-read plane lag S sums N n e z f r x d =
+    d ∙ energy-exact plane lag S (toZ-ofZ w64 z f ∙ r ∙ (λ t. sumAt sums lag (e t) (e t)) ∙ N .entries (neighbours lag) (neighbours lag) (omega arith) (omega arith))

@@ -14,6 +14,7 @@ use borrow.Author.Tests.{eqb-true, eqb-false, leb-true, leb-false}
 use Rattle.laws.specs.Limits.{planeLimit, sampleLimit}
 use Rattle.laws.specs.Scaled.{plusZero}
 use Rattle.laws.proofs.Table.{getD-tabulate}
+use Rattle.float.specs.Reading.{coefficients}
 use Rattle.float.specs.Steps.{quantAr}
 use Rattle.frame.specs.Calls.{fitRefusal}
 use Rattle.frame.specs.Planes.{viewOf}
@@ -57,14 +58,14 @@ all-zero x zero h = refl
 all-zero x (suc n) h = rw (all-zero x n (λ i l. h i (le-trans l (le-suc n))), h n (le-refl (suc n)))
 
 -- the coefficients in use
-first-at : (x : List ℤ) (i : ℕ) → i < 24 → getD (firstOf x) i (pos 0) ≡ getD x i (pos 0)
+first-at : (x : List ℤ) (i : ℕ) → i < 24 → getD (firstOf coefficients x) i (pos 0) ≡ getD x i (pos 0)
 unfolding firstOf
 first-at x i l = getD-tabulate 24 (λ i. getD x i (pos 0)) i (pos 0) l
 
-zeros-at : (i : ℕ) → i < 24 → getD zeros i (pos 0) ≡ pos 0
+zeros-at : (i : ℕ) → i < 24 → getD (zeros coefficients) i (pos 0) ≡ pos 0
 zeros-at i l = getD-replicate 25 i (pos 0) (pos 0) (omega arith)
 
-quantised-at : (r : Solved) (i : ℕ) → i < 24 → getD (quantised (r .solution .values)) i (pos 0) ≡ quantAr (value (r .solution .values) i)
+quantised-at : (r : Solved) (i : ℕ) → i < 24 → getD (quantised coefficients (r .solution .values)) i (pos 0) ≡ quantAr (value (r .solution .values) i)
 unfolding quantised
 quantised-at r i l = getD-tabulate 25 (λ i. quantAr (value (r .solution .values) i)) i (pos 0) (omega arith)
 
@@ -85,14 +86,14 @@ module _ (plane : Pair) (lag : ℕ) (few : lag ≤ 3) (S : Limited planeLimit sa
   used : (i : ℕ) → i < neighbours lag → i < 24
   used i l = lt-of-lt-of-le l (neighbours-le few)
 
-  zeros-zero : Zero zeros
+  zeros-zero : Zero (zeros coefficients)
   zeros-zero i l = zeros-at i (used i l)
 
   -- the tests of the definition
   abbrev tested : Bool → Bool → Bool → Bool → Bool → List ℤ
-  tested a b c d e = cond (a || (b || c)) zeros (cond d zeros (cond e (quantised (r .solution .values)) zeros))
+  tested a b c d e = cond (a || (b || c)) (zeros coefficients) (cond d (zeros coefficients) (cond e (quantised coefficients (r .solution .values)) (zeros coefficients)))
 
-  is-tested : lumaFit plane lag ≡ tested (eqb lag 0) (leb w (2 * lag)) (leb h lag) (le (energyF plane lag) plusZero) (r .found)
+  is-tested : lumaFit coefficients plane lag ≡ tested (eqb lag 0) (leb w (2 * lag)) (leb h lag) (le (energyF plane lag) plusZero) (r .found)
   unfolding lumaFit coefficientsOf
   is-tested = refl
 
@@ -106,7 +107,7 @@ module _ (plane : Pair) (lag : ℕ) (few : lag ≤ 3) (S : Limited planeLimit sa
   case false false false false false p q s t u z = unsolved u
   case false false false false true p q s t u z = white (λ i l. sym (quantised-at r i (used i l)) ∙ z i l)
 
-  pub is-case : Zero (lumaFit plane lag) → NoFit plane lag
+  pub is-case : Zero (lumaFit coefficients plane lag) → NoFit plane lag
   is-case z = case _ _ _ _ _ refl refl refl refl refl (λ i l. sym (ap (λ (x : List ℤ). getD x i (pos 0)) is-tested) ∙ z i l)
 
   -- each case leaves zeros
@@ -124,7 +125,7 @@ module _ (plane : Pair) (lag : ℕ) (few : lag ≤ 3) (S : Limited planeLimit sa
   leaves false false false false true p q s t u (unsolved z) = absurd (true≢false (sym u ∙ z))
   leaves false false false false true p q s t u (white z) = λ i l. quantised-at r i (used i l) ∙ z i l
 
-  pub case-is : NoFit plane lag → Zero (lumaFit plane lag)
+  pub case-is : NoFit plane lag → Zero (lumaFit coefficients plane lag)
   case-is n i l = ap (λ (x : List ℤ). getD x i (pos 0)) is-tested ∙ leaves _ _ _ _ _ refl refl refl refl refl n i l
 
 -- ---- the answer
@@ -142,10 +143,10 @@ module _ (s : Shape) (y cb cr y-denoised cb-denoised cr-denoised : List ℕ) (la
   visible : Seen (viewOf s Y) y y-denoised
   visible = fit-seen s y cb cr y-denoised cb-denoised cr-denoised lag passed .0 .luma
 
-  limited : Limited planeLimit sampleLimit (own plane)
+  pub limited : Limited planeLimit sampleLimit (own plane)
   limited = seen-samples visible
 
-  bounded : 2 * lag < plane .width → lag < plane .height → natAbs (entry (noiseOf plane) (plane .width) (plane .height) lag (neighbours lag) (neighbours lag)) ≤ 2 ^ 53
+  pub bounded : 2 * lag < plane .width → lag < plane .height → natAbs (entry (noiseOf plane) (plane .width) (plane .height) lag (neighbours lag) (neighbours lag)) ≤ 2 ^ 53
   bounded a b = le-trans (entry-bound visible (record { few = facts .lag-known; columns = le-of-lt a; rows = le-of-lt b }) (neighbours lag) (neighbours lag) (omega arith) (omega arith)) (lit≤ tt)
 
   is-fit : fitAnswer s y cb cr y-denoised cb-denoised cr-denoised lag ≡ fitOf (lumaOf s y y-denoised) (planeOf s cb cb-denoised) (planeOf s cr cr-denoised) lag
@@ -154,15 +155,15 @@ module _ (s : Shape) (y cb cr y-denoised cb-denoised cr-denoised : List ℕ) (la
   pub no-fit-only : fitAnswer s y cb cr y-denoised cb-denoised cr-denoised lag .found ≡ false → NoFit plane lag
   unfolding fitOf
   no-fit-only e =
-      let x = lumaFit plane lag in
-      let t : allZero (firstOf x) (neighbours lag) ≡ true = picked _ _ refl (sym (λ i. is-fit i .found) ∙ e) in
+      let x = lumaFit coefficients plane lag in
+      let t : allZero (firstOf coefficients x) (neighbours lag) ≡ true = picked _ _ refl (sym (λ i. is-fit i .found) ∙ e) in
       is-case plane lag (facts .lag-known) limited bounded
-      (λ i l. sym (first-at x i (lt-of-lt-of-le l (neighbours-le (facts .lag-known)))) ∙ each-zero (firstOf x) (neighbours lag) t i l)
+      (λ i l. sym (first-at x i (lt-of-lt-of-le l (neighbours-le (facts .lag-known)))) ∙ each-zero (firstOf coefficients x) (neighbours lag) t i l)
 
   pub no-fit-if : NoFit plane lag → fitAnswer s y cb cr y-denoised cb-denoised cr-denoised lag ≡ unfit 0
   unfolding fitOf
   no-fit-if n = is-fit ∙ rw all
     where
-      all : allZero (firstOf (lumaFit plane lag)) (neighbours lag) ≡ true
-      all = all-zero _ (neighbours lag) (λ i l. first-at (lumaFit plane lag) i (lt-of-lt-of-le l (neighbours-le (facts .lag-known)))
+      all : allZero (firstOf coefficients (lumaFit coefficients plane lag)) (neighbours lag) ≡ true
+      all = all-zero _ (neighbours lag) (λ i l. first-at (lumaFit coefficients plane lag) i (lt-of-lt-of-le l (neighbours-le (facts .lag-known)))
           ∙ case-is plane lag (facts .lag-known) limited bounded n i l)

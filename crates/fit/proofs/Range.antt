@@ -12,6 +12,7 @@ use Rattle.laws.specs.Table.{tabulate}
 use Rattle.laws.proofs.Table.{getD-tabulate, length-tabulate}
 use Rattle.frame.specs.declared.Shape.{Shape}
 use Rattle.float.specs.Coefficient.{Written}
+use Rattle.float.specs.Reading.{coefficients}
 use Rattle.float.proofs.Coefficient.{quant-written}
 use Rattle.solve.specs.Elimination.{value}
 use Rattle.solve.specs.declared.Solved.{Solved}
@@ -35,11 +36,11 @@ table-written n f h i =
       | no l ↦ subst Written (sym (getD-tabulate n f i (pos 0) (lt-of-not-le l))) (h i)
     ]
 
-solved-written : (r : Solved) → AllWritten (coefficientsOf r)
+solved-written : (r : Solved) → AllWritten (coefficientsOf coefficients r)
 unfolding coefficientsOf quantised
 solved-written r = go (r .found)
   where
-    go : (b : Bool) → AllWritten (cond b (quantised (r .solution .values)) zeros)
+    go : (b : Bool) → AllWritten (cond b (quantised coefficients (r .solution .values)) (zeros coefficients))
     go true = table-written 25 _ (λ i. quant-written (value (r .solution .values) i))
     go false = zeros-written 25
 
@@ -49,10 +50,10 @@ unfolding firstOf
 fit-written s y cb cr y-denoised cb-denoised cr-denoised lag =
     answer-case FitWritten (λ n. record { luma = zeros-written 24; cb = zeros-written 25; cr = zeros-written 25 }) s y cb cr y-denoised cb-denoised cr-denoised lag
     (record {
-      luma = table-written 24 _ (luma-case AllWritten (zeros-written 25) _ lag (solved-written (lumaSolved (lumaOf s y y-denoised .plane) lag)));
+      luma = table-written 24 _ (luma-case coefficients AllWritten (zeros-written 25) _ lag (solved-written (lumaSolved (lumaOf s y y-denoised .plane) lag)));
       cb = chroma cb cb-denoised;
       cr = chroma cr cr-denoised;
     })
   where
-    chroma : (source denoised : List ℕ) → AllWritten (chromaFit (lumaOf s y y-denoised) (planeOf s source denoised) lag)
-    chroma source denoised = chroma-case AllWritten (zeros-written 25) _ _ lag (solved-written (chromaSolved (lumaOf s y y-denoised) (planeOf s source denoised) lag))
+    chroma : (source denoised : List ℕ) → AllWritten (chromaFit coefficients (lumaOf s y y-denoised) (planeOf s source denoised) lag)
+    chroma source denoised = chroma-case coefficients AllWritten (zeros-written 25) _ _ lag (solved-written (chromaSolved (lumaOf s y y-denoised) (planeOf s source denoised) lag))

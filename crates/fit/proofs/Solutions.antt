@@ -12,6 +12,7 @@ use borrow.Author.Tests.{leb-true, leb-false}
 use Rattle.laws.specs.Constants.{four}
 use Rattle.laws.specs.Scaled.{plusZero}
 use Rattle.laws.proofs.Table.{tabulate-same}
+use Rattle.float.specs.Reading.{Reading}
 use Rattle.positions.specs.Counts.{neighbours, factors}
 use Rattle.solve.specs.Elimination.{Row, Matrix}
 use Rattle.solve.specs.Answer.{solvedOf}
@@ -19,13 +20,13 @@ use Rattle.solve.specs.declared.Solved.{Solved}
 use Rattle.fit.specs.Steps.{cellOf, rowOf, matrixOf, valueOf, rightOf, zeros, quantised, coefficientsOf}
 use Rattle.fit.specs.Sums.{cellSum, rightSum, exactFit}
 
-module _ (entries : ℕ → ℕ → ℤ) (taps : ℕ → ℤ) (squares : Float) (lag p : ℕ) (a : Matrix) (b : Row) (r : Solved)
+module _ {A : Type 0} (R : Reading A) (entries : ℕ → ℕ → ℤ) (taps : ℕ → ℤ) (squares : Float) (lag p : ℕ) (a : Matrix) (b : Row) (r : Solved)
     (ea : a ≡ matrixOf (cellSum entries taps squares lag) p) (eb : b ≡ rightOf (rightSum entries taps lag) p) (er : r ≡ solvedOf a b p) where
-  pub solution : r .found ≡ true → (x : List ℤ) → x ≡ quantised (r .solution .values) → x ≡ exactFit entries taps squares lag p
+  pub solution : r .found ≡ true → (x : List A) → x ≡ quantised R (r .solution .values) → x ≡ exactFit R entries taps squares lag p
   unfolding exactFit coefficientsOf
   solution f x e = rw (← ea, ← eb, ← er, f) e
 
-  pub no-solution : r .found ≡ false → zeros ≡ exactFit entries taps squares lag p
+  pub no-solution : r .found ≡ false → zeros R ≡ exactFit R entries taps squares lag p
   unfolding exactFit coefficientsOf
   no-solution f = rw (← ea, ← eb, ← er, f)
 
@@ -63,11 +64,11 @@ module _ (sum sum′ : ℕ → Float) (p : ℕ) (same : (i : ℕ) → i < p → 
   unfolding rightOf
   right-same = tabulate-same 25 (valueOf sum p) (valueOf sum′ p) (λ i l. value-same i)
 
-exact-same : (entries entries′ : ℕ → ℕ → ℤ) (taps : ℕ → ℤ) (squares : Float) (lag p : ℕ) → p ≤ factors lag
-    → ((i j : ℕ) → i < factors lag → j < factors lag → entries i j ≡ entries′ i j) → exactFit entries taps squares lag p ≡ exactFit entries′ taps squares lag p
+exact-same : {A : Type 0} (R : Reading A) (entries entries′ : ℕ → ℕ → ℤ) (taps : ℕ → ℤ) (squares : Float) (lag p : ℕ) → p ≤ factors lag
+    → ((i j : ℕ) → i < factors lag → j < factors lag → entries i j ≡ entries′ i j) → exactFit R entries taps squares lag p ≡ exactFit R entries′ taps squares lag p
 unfolding exactFit cellSum rightSum
-exact-same entries entries′ taps squares lag p few same =
-    λ t. coefficientsOf (solvedOf (matrix-same (cellSum entries taps squares lag) (cellSum entries′ taps squares lag) p cells t) (right-same (rightSum entries taps lag) (rightSum entries′ taps lag) p values t) p)
+exact-same R entries entries′ taps squares lag p few same =
+    λ t. coefficientsOf R (solvedOf (matrix-same (cellSum entries taps squares lag) (cellSum entries′ taps squares lag) p cells t) (right-same (rightSum entries taps lag) (rightSum entries′ taps lag) p values t) p)
   where
     cells : (i j : ℕ) → i ≤ j → j < p → cellSum entries taps squares lag i j ≡ cellSum entries′ taps squares lag i j
     cells i j a b =
@@ -82,7 +83,7 @@ exact-same entries entries′ taps squares lag p few same =
         λ t. cond (ltb i (neighbours lag)) (ofInt binary64 (same i (neighbours lag) k l t)) (div binary64 (ofInt binary64 (taps (neighbours lag))) four)
 
 -- with the sums of every factor
-pub exact-all : (entries entries′ : ℕ → ℕ → ℤ) (taps : ℕ → ℤ) (squares : Float) (lag p : ℕ) → p + 1 ≡ factors lag
-    → ((i j : ℕ) → i < factors lag → j < factors lag → entries i j ≡ entries′ i j) → (r : List ℤ) → r ≡ exactFit entries taps squares lag (p + 1) → r ≡ exactFit entries′ taps squares lag (factors lag)
-exact-all entries entries′ taps squares lag p e same r d =
-    d ∙ ap (exactFit entries taps squares lag) e ∙ exact-same entries entries′ taps squares lag (factors lag) (le-refl (factors lag)) same
+pub exact-all : {A : Type 0} (R : Reading A) (entries entries′ : ℕ → ℕ → ℤ) (taps : ℕ → ℤ) (squares : Float) (lag p : ℕ) → p + 1 ≡ factors lag
+    → ((i j : ℕ) → i < factors lag → j < factors lag → entries i j ≡ entries′ i j) → (r : List A) → r ≡ exactFit R entries taps squares lag (p + 1) → r ≡ exactFit R entries′ taps squares lag (factors lag)
+exact-all R entries entries′ taps squares lag p e same r d =
+    d ∙ ap (exactFit R entries taps squares lag) e ∙ exact-same R entries entries′ taps squares lag (factors lag) (le-refl (factors lag)) same

@@ -6,6 +6,7 @@ use lib.Dec.{eqb}
 use lib.IntN.{ℤ, pos, natAbs}
 use lib.ListN.{getD, replicate}
 use Rattle.laws.specs.Table.{tabulate}
+use Rattle.float.specs.Reading.{Reading, coefficients, marks}
 use Rattle.frame.specs.Questions.{accepted}
 use Rattle.frame.specs.Calls.{fitRefusal}
 use Rattle.frame.specs.Planes.{geometryOf}
@@ -14,7 +15,7 @@ use Rattle.noise.specs.Noise.{Pair}
 use Rattle.noise.specs.Average.{Luma, lumaSeen}
 use Rattle.noise.specs.Seen.{seen}
 use Rattle.positions.specs.Counts.{neighbours}
-use Rattle.fit.specs.Steps.{lumaFit, chromaFit}
+use Rattle.fit.specs.Steps.{zeros, lumaFit, chromaFit}
 use Rattle.fit.specs.declared.Fit.{Fit}
 
 -- `y.iter().all(|&c| c == 0)`, of the first n
@@ -23,12 +24,26 @@ allZero x zero = true
 allZero x (suc n) = allZero x n && eqb (natAbs (getD x n (pos 0))) 0
 
 -- luma's at most 24
-unfoldable pub firstOf : List ℤ → List ℤ
-firstOf x = tabulate 24 (λ i. getD x i (pos 0))
+unfoldable pub firstOf : {A : Type 0} → Reading A → List A → List A
+firstOf R x = tabulate 24 (λ i. getD x i (R .unquantised))
+
+abbrev pub lumaFirst : {A : Type 0} → Reading A → Luma → ℕ → List A
+lumaFirst R luma lag = firstOf R (lumaFit R (luma .plane) lag)
 
 -- refused with this number, or, with 0, no fit
 abbrev pub unfit : ℕ → Fit
-unfit n = record { refusal = n; found = false; count = 0; luma = replicate 24 (pos 0); cb = replicate 25 (pos 0); cr = replicate 25 (pos 0) }
+unfit n =
+    record {
+      refusal = n;
+      found = false;
+      count = 0;
+      luma = replicate 24 (coefficients .unquantised);
+      cb = zeros coefficients;
+      cr = zeros coefficients;
+      «luma_marks» = replicate 24 (marks .unquantised);
+      «cb_marks» = zeros marks;
+      «cr_marks» = zeros marks;
+    }
 
 -- a fit of a luma plane and two chroma planes
 abbrev pub foundOf : Luma → Pair → Pair → ℕ → Fit
@@ -37,14 +52,17 @@ foundOf luma cb cr lag =
       refusal = 0;
       found = true;
       count = neighbours lag;
-      luma = firstOf (lumaFit (luma .plane) lag);
-      cb = chromaFit luma cb lag;
-      cr = chromaFit luma cr lag;
+      luma = lumaFirst coefficients luma lag;
+      cb = chromaFit coefficients luma cb lag;
+      cr = chromaFit coefficients luma cr lag;
+      «luma_marks» = lumaFirst marks luma lag;
+      «cb_marks» = chromaFit marks luma cb lag;
+      «cr_marks» = chromaFit marks luma cr lag;
     }
 
 -- what is found: no fit where luma's coefficients are all 0
 unfoldable pub fitOf : Luma → Pair → Pair → ℕ → Fit
-fitOf luma cb cr lag = cond (allZero (firstOf (lumaFit (luma .plane) lag)) (neighbours lag)) (unfit 0) (foundOf luma cb cr lag)
+fitOf luma cb cr lag = cond (allZero (lumaFirst coefficients luma lag) (neighbours lag)) (unfit 0) (foundOf luma cb cr lag)
 
 -- the luma of a frame, and a chroma plane, as a call sees them
 abbrev pub lumaOf : Shape → List ℕ → List ℕ → Luma

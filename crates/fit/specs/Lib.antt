@@ -8,3 +8,4 @@ pub mod Offsets
 -- how the work is divided: the contracts of the parts
 pub mod Sums
 pub mod Rooms
+pub mod Apart

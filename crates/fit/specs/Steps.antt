@@ -4,12 +4,11 @@ use mathlib.Core.Bool.{Bool, cond, _||_}
 use mathlib.Core.List.{List}
 use Prim.Native.Nat.{ℕ, _-_, _*_}
 use lib.Dec.{eqb, leb, ltb}
-use lib.IntN.{ℤ, pos}
 use lib.ListN.{length, getD, replicate}
 use lib.Ieee.{Float, le}
 use Rattle.laws.specs.Scaled.{plusZero}
 use Rattle.laws.specs.Table.{tabulate}
-use Rattle.float.specs.Steps.{quantAr}
+use Rattle.float.specs.Reading.{Reading}
 use Rattle.noise.specs.Average.{Luma}
 use Rattle.noise.specs.Noise.{Pair}
 use Rattle.noise.specs.Products.{Factor, noiseFrom, average, own}
@@ -64,18 +63,19 @@ unfoldable pub solvedFit : Pair → ℕ → (ℕ → Factor) → ℕ → Solved
 solvedFit plane lag row p =
     solvedOf (matrixOf (λ i j. fitF plane lag (row i) (row j)) p) (rightOf (λ i. fitF plane lag (row i) (own plane)) p) p
 
--- ---- the coefficients: 25, of which p are used
+-- ---- the coefficients: 25, of which p are used; as a reading tells them, the coefficient, its mark or both
 
-abbrev pub zeros : List ℤ
-zeros = replicate 25 (pos 0)
+-- set to zero without quantising
+abbrev pub zeros : {A : Type 0} → Reading A → List A
+zeros R = replicate 25 (R .unquantised)
 
 -- `sol.iter().map(|&c| quant_ar(c))`
-unfoldable pub quantised : Row → List ℤ
-quantised x = tabulate 25 (λ i. quantAr (value x i))
+unfoldable pub quantised : {A : Type 0} → Reading A → Row → List A
+quantised R x = tabulate 25 (λ i. R .of (value x i))
 
 -- and zeros where there is no solution
-unfoldable pub coefficientsOf : Solved → List ℤ
-coefficientsOf r = cond (r .found) (quantised (r .solution .values)) zeros
+unfoldable pub coefficientsOf : {A : Type 0} → Reading A → Solved → List A
+coefficientsOf R r = cond (r .found) (quantised R (r .solution .values)) (zeros R)
 
 -- `w <= 2 * lag || h <= lag`
 abbrev pub tooSmall : Pair → ℕ → Bool
@@ -86,14 +86,14 @@ unfoldable pub energyF : Pair → ℕ → Float
 energyF plane lag = fitF plane lag (own plane) (own plane)
 
 -- luma: `lag == 0`, then `ls_fit_ar`; zeros for its `None`. (`count == 0` is no case of its own: a plane that is not too small has a window.)
-unfoldable pub lumaFit : Pair → ℕ → List ℤ
-lumaFit plane lag =
-    cond (eqb lag 0 || tooSmall plane lag) zeros
-    (cond (le (energyF plane lag) plusZero) zeros
-    (coefficientsOf (solvedFit plane lag (neighbourOf plane lag) (neighbours lag))))
+unfoldable pub lumaFit : {A : Type 0} → Reading A → Pair → ℕ → List A
+lumaFit R plane lag =
+    cond (eqb lag 0 || tooSmall plane lag) (zeros R)
+    (cond (le (energyF plane lag) plusZero) (zeros R)
+    (coefficientsOf R (solvedFit plane lag (neighbourOf plane lag) (neighbours lag))))
 
 -- chroma: `src.is_empty()`, then the size
-unfoldable pub chromaFit : Luma → Pair → ℕ → List ℤ
-chromaFit luma plane lag =
-    cond (eqb (length (plane .source)) 0 || tooSmall plane lag) zeros
-    (coefficientsOf (solvedFit plane lag (withTap luma plane lag) (factors lag)))
+unfoldable pub chromaFit : {A : Type 0} → Reading A → Luma → Pair → ℕ → List A
+chromaFit R luma plane lag =
+    cond (eqb (length (plane .source)) 0 || tooSmall plane lag) (zeros R)
+    (coefficientsOf R (solvedFit plane lag (withTap luma plane lag) (factors lag)))

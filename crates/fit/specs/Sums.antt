@@ -8,6 +8,7 @@ use lib.IntN.{ℤ}
 use lib.ListN.{length}
 use lib.Ieee.{Float, binary64, div, ofInt}
 use Rattle.laws.specs.Constants.{four}
+use Rattle.float.specs.Reading.{Reading}
 use Rattle.positions.specs.Counts.{neighbours, factors}
 use Rattle.normal.specs.Layout.{sumsSize}
 use Rattle.solve.specs.Answer.{solvedOf}
@@ -31,6 +32,6 @@ rightSum entries taps lag i =
     cond (ltb i (neighbours lag)) (ofInt binary64 (entries i (neighbours lag))) (div binary64 (ofInt binary64 (taps (neighbours lag))) four)
 
 -- p factors: the coefficients
-unfoldable pub exactFit : (ℕ → ℕ → ℤ) → (ℕ → ℤ) → Float → ℕ → ℕ → List ℤ
-exactFit entries taps squares lag p =
-    coefficientsOf (solvedOf (matrixOf (cellSum entries taps squares lag) p) (rightOf (rightSum entries taps lag) p) p)
+unfoldable pub exactFit : {A : Type 0} → Reading A → (ℕ → ℕ → ℤ) → (ℕ → ℤ) → Float → ℕ → ℕ → List A
+exactFit R entries taps squares lag p =
+    coefficientsOf R (solvedOf (matrixOf (cellSum entries taps squares lag) p) (rightOf (rightSum entries taps lag) p) p)

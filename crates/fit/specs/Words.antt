@@ -8,13 +8,15 @@ use lib.IntN.{ℤ, pos}
 use lib.ListN.{getD}
 use Rattle.float.specs.Steps.{quantAr}
 use Rattle.float.specs.Coefficient.{Written}
+use Rattle.float.specs.Mark.{mark, number}
+use Rattle.float.specs.Reading.{Reading, coefficients, marks}
 use Rattle.noise.specs.Noise.{Pair, noiseOf}
 use Rattle.noise.specs.Average.{Luma}
 use Rattle.positions.specs.Counts.{neighbours, factors}
 use Rattle.normal.specs.Normal.{windowSum}
 use Rattle.solve.specs.Elimination.{value}
 use Rattle.solve.specs.declared.Solved.{Solved}
-use Rattle.fit.specs.Steps.{neighbourOf, withTap, solvedFit}
+use Rattle.fit.specs.Steps.{neighbourOf, withTap, solvedFit, zeros}
 use Rattle.fit.specs.declared.Fit.{Fit}
 
 -- the exact sum of squares over the target samples
@@ -42,9 +44,26 @@ pub data NoChroma (format : ℕ) (luma : Luma) (plane : Pair) (lag : ℕ) : Type
   short : plane .height ≤ lag → NoChroma format luma plane lag
   unsolved : chromaSolved luma plane lag .found ≡ false → NoChroma format luma plane lag
 
--- "2×lag×(lag+1) of them", "Chroma has one coefficient more": zero from p on, of the first m
-abbrev pub ZeroFrom : ℕ → ℕ → List ℤ → Type 0
-ZeroFrom p m x = (i : ℕ) → p ≤ i → i < m → getD x i (pos 0) ≡ pos 0
+-- "The luma fit, the chroma fit .. carry this for each coefficient": coefficient i of p and its mark are those of value i of the solution
+pub record Carried (x : List ℤ) (m : List ℕ) (solution : Solved) (p : ℕ) : Type 0 where
+  pub quantised : (i : ℕ) → i < p → getD x i (pos 0) ≡ quantAr (value (solution .solution .values) i)
+  pub marked : (i : ℕ) → i < p → getD m i 0 ≡ number (mark (value (solution .solution .values) i))
+
+-- coefficients "set to zero without quantising", and so "inside"
+abbrev pub Zeros : List ℤ → List ℕ → Type 0
+Zeros x y = (x ≡ zeros coefficients) × (y ≡ zeros marks)
+
+-- "2×lag×(lag+1) of them", "Chroma has one coefficient more", "One set to zero without quantising counts as inside": zero, and inside, from p on, of the first m
+abbrev pub ZeroFrom : {A : Type 0} → Reading A → ℕ → ℕ → List A → Type 0
+ZeroFrom R p m x = (i : ℕ) → p ≤ i → i < m → getD x i (R .unquantised) ≡ R .unquantised
+
+pub record UnusedZero (lag : ℕ) (f : Fit) : Type 0 where
+  pub luma : ZeroFrom coefficients (neighbours lag) 24 (f .luma)
+  pub cb : ZeroFrom coefficients (factors lag) 25 (f .cb)
+  pub cr : ZeroFrom coefficients (factors lag) 25 (f .cr)
+  pub luma-marks : ZeroFrom marks (neighbours lag) 24 (f .«luma_marks»)
+  pub cb-marks : ZeroFrom marks (factors lag) 25 (f .«cb_marks»)
+  pub cr-marks : ZeroFrom marks (factors lag) 25 (f .«cr_marks»)
 
 -- 5.9.30: every coefficient of a list can be written, and so those of an answer
 abbrev pub AllWritten : List ℤ → Type 0
@@ -60,4 +79,6 @@ pub record SameButCr (f g : Fit) : Type 0 where
   pub found : f .found ≡ g .found
   pub count : f .count ≡ g .count
   pub luma : f .luma ≡ g .luma
+  pub luma-marks : f .«luma_marks» ≡ g .«luma_marks»
   pub cb : f .cb ≡ g .cb
+  pub cb-marks : f .«cb_marks» ≡ g .«cb_marks»

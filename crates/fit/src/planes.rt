@@ -2,6 +2,7 @@
 ghost use mathlib.Core.Path.{_≡_};
 ghost use Prim.Native.Nat.{_≤_};
 ghost use lib.ListN.{length};
+ghost use Rattle.float.specs.Reading.{both};
 ghost use Rattle.noise.specs.Lines.{at};
 ghost use Rattle.noise.specs.Noise.{noiseOf};
 ghost use Rattle.noise.specs.Seen.{seen, Seen, SeenFrame};
@@ -14,13 +15,15 @@ ghost use Rattle.fit.specs.Rooms.{LumaRoom, ComponentRoom, ChromaRoom};
 use crate::coefficients::coefficients;
 use crate::counts::neighbour_count;
 use crate::counts::sums_size;
+use float::Quantised;
+use float::UNQUANTISED;
 use frame::Geometry;
 use frame::View;
 
 // The coefficients of Cb and Cr.
 pub struct Chroma {
-    pub cb: [i32; 25],
-    pub cr: [i32; 25],
+    pub cb: [Quantised; 25],
+    pub cr: [Quantised; 25],
 }
 
 fn blank_sums() -> [i64; 784] {
@@ -39,32 +42,32 @@ fn luma_coefficients(
     lag: usize,
     taps: &[i64],
     sums: &mut [i64],
-) -> [i32; 25]
+) -> [Quantised; 25]
     requires { ⌜ LumaRoom view (now src) (now den) lag (length (now taps)) (length (now sums)) ⌝ }
-    ensures { λ r. ⌜ r ≡ lumaFit (seen view (now (src .entry)) (now (den .entry))) lag ⌝ }
+    ensures { λ r. ⌜ r ≡ lumaFit both (seen view (now (src .entry)) (now (den .entry))) lag ⌝ }
 {
     normal::neighbour_sums(src, den, view, lag, sums);
     let n = neighbour_count(lag);
     let energy = normal::neighbour_sum(sums, lag, n, n);
     if std::num::nearest_i64_to_f64(energy) <= 0.0 {
-        return [0; 25];
+        return [UNQUANTISED; 25];
     }
     coefficients(sums, taps, 0.0, lag, n)
 }
 
 // Luma: zeros where the lag is 0 or the plane is too small, too.
-pub fn luma_fit(src: &[u16], den: &[u16], view: View, lag: usize) -> [i32; 25]
+pub fn luma_fit(src: &[u16], den: &[u16], view: View, lag: usize) -> [Quantised; 25]
     requires { ⌜ Seen view (now src) (now den) × (lag ≤ 3) ⌝ }
-    ensures { λ r. ⌜ r ≡ lumaFit (seen view (now (src .entry)) (now (den .entry))) lag ⌝ }
+    ensures { λ r. ⌜ r ≡ lumaFit both (seen view (now (src .entry)) (now (den .entry))) lag ⌝ }
 {
     if lag == 0 {
-        return [0; 25];
+        return [UNQUANTISED; 25];
     }
     if view.width <= 2 * lag {
-        return [0; 25];
+        return [UNQUANTISED; 25];
     }
     if view.height <= lag {
-        return [0; 25];
+        return [UNQUANTISED; 25];
     }
     let mut sums = blank_sums();
     let taps = blank_taps();
@@ -82,9 +85,9 @@ fn component(
     taps: &[i64],
     squares: f64,
     sums: &mut [i64],
-) -> [i32; 25]
+) -> [Quantised; 25]
     requires { ⌜ ComponentRoom view (now src) (now den) lag (length (now taps)) (length (now sums)) ⌝ }
-    ensures { λ r. ⌜ r ≡ exactFit (entry (noiseOf (seen view (now (src .entry)) (now (den .entry)))) (view .width) (view .height) lag) (at (now (taps .entry))) squares lag (factors lag) ⌝ }
+    ensures { λ r. ⌜ r ≡ exactFit both (entry (noiseOf (seen view (now (src .entry)) (now (den .entry)))) (view .width) (view .height) lag) (at (now (taps .entry))) squares lag (factors lag) ⌝ }
 {
     normal::neighbour_sums(src, den, view, lag, sums);
     coefficients(sums, taps, squares, lag, neighbour_count(lag) + 1)
@@ -105,7 +108,7 @@ fn chroma_coefficients(
     sums: &mut [i64],
 ) -> Chroma
     requires { ⌜ ChromaRoom geometry (now y) (now yden) (now cb) (now cbden) (now cr) (now crden) lag (length (now cbtaps)) (length (now crtaps)) (length (now sums)) ⌝ }
-    ensures { λ r. ⌜ (r .cb ≡ chromaFit (lumaSeen geometry (now (y .entry)) (now (yden .entry))) (seen (geometry .chroma) (now (cb .entry)) (now (cbden .entry))) lag) × (r .cr ≡ chromaFit (lumaSeen geometry (now (y .entry)) (now (yden .entry))) (seen (geometry .chroma) (now (cr .entry)) (now (crden .entry))) lag) ⌝ }
+    ensures { λ r. ⌜ (r .cb ≡ chromaFit both (lumaSeen geometry (now (y .entry)) (now (yden .entry))) (seen (geometry .chroma) (now (cb .entry)) (now (cbden .entry))) lag) × (r .cr ≡ chromaFit both (lumaSeen geometry (now (y .entry)) (now (yden .entry))) (seen (geometry .chroma) (now (cr .entry)) (now (crden .entry))) lag) ⌝ }
 {
     let sixteenths = normal::tap_sums(y, yden, cb, cbden, cr, crden, geometry, lag, cbtaps, crtaps);
     let squares = std::num::nearest_i64_to_f64(sixteenths) / 16.0;
@@ -127,19 +130,19 @@ pub fn chroma_fit(
     lag: usize,
 ) -> Chroma
     requires { ⌜ SeenFrame geometry (now y) (now yden) (now cb) (now cbden) (now cr) (now crden) × (lag ≤ 3) ⌝ }
-    ensures { λ r. ⌜ (r .cb ≡ chromaFit (lumaSeen geometry (now (y .entry)) (now (yden .entry))) (seen (geometry .chroma) (now (cb .entry)) (now (cbden .entry))) lag) × (r .cr ≡ chromaFit (lumaSeen geometry (now (y .entry)) (now (yden .entry))) (seen (geometry .chroma) (now (cr .entry)) (now (crden .entry))) lag) ⌝ }
+    ensures { λ r. ⌜ (r .cb ≡ chromaFit both (lumaSeen geometry (now (y .entry)) (now (yden .entry))) (seen (geometry .chroma) (now (cb .entry)) (now (cbden .entry))) lag) × (r .cr ≡ chromaFit both (lumaSeen geometry (now (y .entry)) (now (yden .entry))) (seen (geometry .chroma) (now (cr .entry)) (now (crden .entry))) lag) ⌝ }
 {
     let view = geometry.chroma;
     if view.width <= 2 * lag {
         return Chroma {
-            cb: [0; 25],
-            cr: [0; 25],
+            cb: [UNQUANTISED; 25],
+            cr: [UNQUANTISED; 25],
         };
     }
     if view.height <= lag {
         return Chroma {
-            cb: [0; 25],
-            cr: [0; 25],
+            cb: [UNQUANTISED; 25],
+            cr: [UNQUANTISED; 25],
         };
     }
     let mut cbtaps = blank_taps();

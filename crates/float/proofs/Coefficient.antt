@@ -1,26 +1,22 @@
 -- The quantiser's steps are the words: `quantAr c` is `coefficient c` for every f64 (`quant-is-coefficient`), and what it gives can be written in 8 bits (`quant-written`, `coefficient-written`).
--- * 64 times an f64 is exact, and its rounding is a whole number (`exact-steps`), unless it is 2 ^ 1024 or more. Then it is an infinity, and both sides are held to the same end (`held-steps`).
--- Assumes nothing.
+-- A hold to 32 bits before the hold to 8 changes nothing (`hold-side`). Assumes nothing.
 use mathlib.Core.Path.{_≡_, refl, sym, ap, _∙_, subst}
-use Prim.Native.Nat.{ℕ, zero, suc, _+_, _-_, _*_, _/_, _^_, _≤_, _<_, min}
-use native.Mathlib.Nat.{le-trans, lt-of-not-le, mul-comm, mul-le-mul-right, le-div-iff-mul-le}
+use Prim.Native.Nat.{ℕ, zero, suc, _+_, _-_, _*_, _^_, _≤_, _<_, min}
+use native.Mathlib.Nat.{lt-of-not-le}
 use native.Mathlib.Decide.{decLe}
 use native.Mathlib.Omega.{arith}
 use mathlib.Core.Bool.{Bool, true, false, cond}
 use lib.IntN.{ℤ, pos, negsuc, negℤ, _+ℤ_, _-ℤ_, +ℤ-comm, +ℤ-negℤ-cancel, pos-+ℤ-pos}
-use lib.Dec.{T, lit<, lit≤}
+use lib.Dec.{T, lit<}
 use lib.Ieee.{Float, nan, inf, fin, binary64, up, down, mul, fits, round, toSigned}
-use lib.Ieee.Fits.{down-pos, mul-fits}
 use borrow.Author.Tests.{lt-ltb, le-ltb}
 use Rattle.laws.specs.Constants.{sixtyFour}
 use Rattle.float.specs.Clamp.{clampOf}
 use Rattle.float.specs.Round.{halfUp, roundHalfAway}
 use Rattle.float.specs.Steps.{quantAr}
 use Rattle.float.specs.Coefficient.{times64, held, coefficient, Written}
-use Rattle.float.proofs.Units.{fit}
-use Rattle.float.proofs.Times.{times-exact, times-too-large}
-use Rattle.float.proofs.Cut.{side, signed-cut}
-use Rattle.float.proofs.NearestWhole.{round-nearest}
+use Rattle.float.proofs.Cut.{side}
+use Rattle.float.proofs.Rounded64.{rounded-is}
 
 -- ---- held to −128..127
 abbrev hold : ℤ → ℤ
@@ -63,7 +59,6 @@ hold-signed : (s : Bool) (n : ℕ) → hold (cond s (negℤ (pos n)) (pos n)) �
 hold-signed true n = hold-neg n
 hold-signed false n = hold-pos n
 
--- a hold of 32 bits before it changes nothing
 hold-side : (s : Bool) (n : ℕ) → hold (side 31 s n) ≡ ends s n
 hold-side true n = hold-neg (min n (2 ^ 31)) ∙ ap (λ (x : ℕ). negℤ (pos x)) (twice n)
   where
@@ -74,54 +69,12 @@ hold-side false n = hold-pos (min n (2 ^ 31 - 1)) ∙ ap pos (twice n)
     twice : (n : ℕ) → min (min n (2 ^ 31 - 1)) 127 ≡ min n 127
     twice n = omega arith
 
--- ---- the steps on a finite number
-module _ (s : Bool) (m : ℕ) (e : ℤ) (t : T (fits binary64 (fin s m e))) where
-  k : ℕ
-  k = halfUp (64 * (m * up e)) (down e)
-
-  product : Float
-  product = mul binary64 (fin s m e) (fin false 1 (pos 6))
-
-  exact-steps : m * up e * 2 ^ 6 < 2 ^ 1024 * down e → toSigned 31 (roundHalfAway product) ≡ side 31 s k
-  unfolding product k
-  exact-steps h =
-      let v = times-exact 6 s m e (fit s m e t) h in
-      let w = round-nearest product s (m * up e * 64) (down e) (mul-fits binary64 (fin s m e) (fin false 1 (pos 6))) (down-pos e) v .0 in
-      signed-cut 31 (roundHalfAway product) s (halfUp (m * up e * 64) (down e)) 1 (lit< tt) w
-      ∙ ap (side 31 s) (one (halfUp (m * up e * 64) (down e)) ∙ ap (λ (x : ℕ). halfUp x (down e)) (mul-comm (m * up e) 64))
-    where
-      one : (n : ℕ) → n / 1 ≡ n
-      one n = omega arith
-
-  held-steps : 2 ^ 1024 * down e ≤ m * up e * 2 ^ 6 → hold (toSigned 31 (roundHalfAway product)) ≡ ends s k
-  unfolding product k halfUp roundHalfAway toSigned clampOf
-  held-steps h = ap (λ (x : Float). hold (toSigned 31 (roundHalfAway x))) (times-too-large 6 s m e (fit s m e t) (lit≤ tt) h) ∙ both s
-    where
-      two : (d : ℕ) → 0 < d → 0 < 2 * d
-      two d D = omega arith
-
-      large : 128 ≤ k
-      large =
-          let l : 128 * down e ≤ m * up e * 64 = le-trans (mul-le-mul-right (down e) (lit≤ tt)) h in
-          le-div-iff-mul-le (two (down e) (down-pos e)) .1 (omega (arith, mul-comm (m * up e) 64))
-
-      both : (b : Bool) → hold (toSigned 31 (inf b)) ≡ ends b k
-      both true = ap (λ (x : ℕ). negℤ (pos x)) (top k large)
-        where
-          top : (n : ℕ) → 128 ≤ n → 128 ≡ min n 128
-          top n l = omega arith
-      both false = ap pos (top k large)
-        where
-          top : (n : ℕ) → 128 ≤ n → 127 ≡ min n 127
-          top n l = omega arith
-
+-- ---- the steps
 finite-steps : (s : Bool) (m : ℕ) (e : ℤ) → T (fits binary64 (fin s m e)) → quantAr (fin s m e) ≡ coefficient (fin s m e)
-unfolding product k quantAr round coefficient times64 held
+unfolding quantAr coefficient times64 held
 finite-steps s m e t =
-    elim (decLe (2 ^ 1024 * down e) (m * up e * 2 ^ 6)) [
-      | yes h ↦ held-steps s m e t h
-      | no f ↦ ap hold (exact-steps s m e t (lt-of-not-le f)) ∙ hold-side s (k s m e t)
-    ] ∙ sym (hold-signed s (k s m e t))
+    let k = halfUp (64 * (m * up e)) (down e) in
+    ap hold (rounded-is s m e t) ∙ hold-side s k ∙ sym (hold-signed s k)
 
 pub quant-is-coefficient : (c : Float) → T (fits binary64 c) → quantAr c ≡ coefficient c
 unfolding quantAr round mul roundHalfAway toSigned clampOf coefficient times64 held

@@ -8,6 +8,9 @@ mod Fractions
 pub mod NearestWhole
 pub mod WholeRoot
 pub mod NearestRoot
+mod Rounded64
 pub mod Coefficient
+pub mod Mark
+mod MarkSteps
 pub mod WholeSigma
 pub mod NearestSigma

@@ -5,6 +5,8 @@ pub mod Round
 pub mod Root
 pub mod Steps
 pub mod Coefficient
+pub mod Mark
+pub mod Reading
 pub mod Sigma
 -- how the work is divided: the contracts of the parts
 pub mod Digits

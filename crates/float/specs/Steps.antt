@@ -9,9 +9,13 @@ use Rattle.float.specs.Clamp.{clampOf}
 use Rattle.float.specs.Round.{roundHalfAway}
 use Rattle.float.specs.Root.{root}
 
+-- `(c * 64.0).round() as i32`
+abbrev pub rounded64 : Float → ℤ
+rounded64 c = toSigned 31 (roundHalfAway (mul binary64 c sixtyFour))
+
 unfoldable pub quantAr : Float → ℤ
 unfolding clampOf roundHalfAway
-quantAr c = clampOf (toSigned 31 (roundHalfAway (mul binary64 c sixtyFour))) (negℤ (pos 128)) (pos 127)
+quantAr c = clampOf (rounded64 c) (negℤ (pos 128)) (pos 127)
 
 -- `(sq as f64 / count as f64).sqrt() * 16.0`
 unfoldable pub deviation16 : ℕ → ℕ → Float

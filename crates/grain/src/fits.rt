@@ -1,17 +1,18 @@
 // The quantiser, the solver, and the fit with its neighbours.
 use fit::Fit;
+use float::Quantised;
 use frame::Shape;
 use positions::Positions;
 use solve::Solved;
 ghost use mathlib.Core.Path.{_≡_};
-ghost use Rattle.float.specs.Steps.{quantAr};
+ghost use Rattle.float.specs.Reading.{quantise};
 ghost use Rattle.solve.specs.Answer.{solvedOf};
 ghost use Rattle.positions.specs.Positions.{positionsOf};
 ghost use Rattle.fit.specs.Answer.{fitAnswer};
 
 #[no_mangle]
-pub extern "C" fn grain_quant_ar(x: f64) -> i32
-    ensures { λ r. ⌜ r ≡ quantAr x ⌝ }
+pub extern "C" fn grain_quant_ar(x: f64) -> Quantised
+    ensures { λ r. ⌜ r ≡ quantise x ⌝ }
 {
     float::quant_ar(x)
 }

@@ -6,8 +6,10 @@ use Rattle.float.specs.Round.{roundHalfAway}
 use Rattle.float.specs.Root.{root}
 use Rattle.float.specs.Steps.{quantAr, sigma16Of}
 use Rattle.float.specs.Coefficient.{coefficient}
+use Rattle.float.specs.Mark.{mark}
+use Rattle.float.specs.Reading.{quantise}
 use Rattle.float.specs.Sigma.{wholeSigma16, sumOfSquares}
-use Rattle.table.specs.Float.{sigma, wholeSigma, sigmaCases, coefficientCases, rootCases, roundCases}
+use Rattle.table.specs.Float.{sigma, wholeSigma, sigmaCases, coefficientCases, markCases, rootCases, roundCases}
 
 pub sigma-cases-right : Right sigma sigmaCases
 unfolding sigma16Of sumOfSquares mul div ofInt ofBits toUnsigned
@@ -24,6 +26,10 @@ quant-cases-right = (refl, (refl, (refl, (refl, (refl, (refl, (refl, tt)))))))
 pub coefficient-cases-right : Right coefficient coefficientCases
 unfolding coefficient
 coefficient-cases-right = (refl, (refl, (refl, (refl, (refl, (refl, (refl, tt)))))))
+
+pub mark-cases-right : Right quantise markCases
+unfolding quantAr mark mul toSigned
+mark-cases-right = (refl, (refl, (refl, (refl, (refl, (refl, (refl, (refl, (refl, (refl, (refl, tt)))))))))))
 
 pub root-cases-right : Right root rootCases
 unfolding root ofBits

@@ -25,6 +25,7 @@ table =
       least-counts = Profile.least-cases-right;
       quantised = Float.quant-cases-right;
       coefficients = Float.coefficient-cases-right;
+      marks = Float.mark-cases-right;
       roots = Float.root-cases-right;
       rounded = Float.round-cases-right;
       solver = Solver.cases-right;

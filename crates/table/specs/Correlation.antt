@@ -1,11 +1,15 @@
--- "Chroma correlation, 4:2:0, width 3, height 1, luma noise 0,4,8, Cb noise 1,1: averages 2 and 8, result 9."
+-- "Chroma correlation, 4:2:0, width 3, height 1, luma noise 0,4,8, Cb noise 1,1: averages 2 and 8, result 9." Then one that is held, and one that is set to zero.
 use mathlib.Core.List.{List, [], _∷_}
 use Prim.Native.Nat.{ℕ, _*_}
 use lib.IntN.{ℤ, pos}
 use lib.ListN.{replicate}
-use Rattle.table.specs.Cases.{Case}
+use Rattle.table.specs.Cases.{Case, row}
+use Rattle.table.specs.Float.{marked}
 use Rattle.laws.specs.Table.{tabulate}
 use Rattle.frame.specs.Size.{chromaWidth, chromaHeight, subX, subY}
+use Rattle.float.specs.Mark.{inside, heldHigh}
+use Rattle.float.specs.Reading.{both}
+use Rattle.float.specs.declared.quant.Quantised.{Quantised}
 use Rattle.noise.specs.Noise.{pair}
 use Rattle.noise.specs.Average.{Luma, quarters}
 use Rattle.chroma_correlation.specs.Steps.{corr}
@@ -21,7 +25,7 @@ pub record Noises : Type 0 where
 pub record Figures : Type 0 where
   -- four times each average of the first chroma row
   pub averages : List ℤ
-  pub result : ℤ
+  pub result : Quantised
 
 abbrev lumaOf : Noises → Luma
 lumaOf i = record {
@@ -35,12 +39,16 @@ figures i =
     let h = chromaHeight (i .format) (i .height) in
     record {
       averages = tabulate w (quarters (lumaOf i) 0);
-      result = corr (lumaOf i) (pair (i .chroma-noise) (replicate (w * h) 0) w h);
+      result = corr both (lumaOf i) (pair (i .chroma-noise) (replicate (w * h) 0) w h);
     }
+
+-- one place of 4:4:4: luma noise, chroma noise
+abbrev place : ℕ → ℕ → Noises
+place luma chroma = record { width = 1; height = 1; format = 3; luma-noise = luma ∷ []; chroma-noise = chroma ∷ [] }
 
 abbrev pub cases : List (Case Noises Figures)
 cases =
-    record {
-      input = record { width = 3; height = 1; format = 1; luma-noise = 0 ∷ 4 ∷ 8 ∷ []; chroma-noise = 1 ∷ 1 ∷ [] };
-      stated = record { averages = pos (4 * 2) ∷ pos (4 * 8) ∷ []; result = pos 9 };
-    } ∷ []
+    row (record { width = 3; height = 1; format = 1; luma-noise = 0 ∷ 4 ∷ 8 ∷ []; chroma-noise = 1 ∷ 1 ∷ [] })
+    (record { averages = pos (4 * 2) ∷ pos (4 * 8) ∷ []; result = marked (pos 9) inside }) ∷
+    row (place 1 3) (record { averages = pos 4 ∷ []; result = marked (pos 127) heldHigh }) ∷
+    row (place 0 3) (record { averages = pos 0 ∷ []; result = marked (pos 0) inside }) ∷ []

@@ -1,12 +1,15 @@
--- "Marked * are proved, and make up a table": the rows on sigma16 and on coefficients, with roots and rounded numbers beside them.
-use Prim.Native.Nat.{ℕ}
+-- "Marked * are proved, and make up a table": the rows on sigma16 and on coefficients, with marks, roots and rounded numbers beside them.
+use Prim.Native.Nat.{ℕ, _*_}
 use mathlib.Core.Bool.{true, false}
 use mathlib.Core.List.{List, [], _∷_}
 use lib.IntN.{ℤ, pos, negsuc, negℤ}
-use lib.Ieee.{Float, nan, inf, fin, binary64, ofBits}
+use lib.Ieee.{Float, nan, inf, fin, binary64, round, ofBits}
 use lib.ListN.{length, replicate}
+use Rattle.laws.specs.Constants.{fraction}
 use Rattle.float.specs.Steps.{sigma16Of}
 use Rattle.float.specs.Sigma.{wholeSigma16, sumOfSquares}
+use Rattle.float.specs.Mark.{Mark, inside, heldLow, heldHigh, notANumber, number}
+use Rattle.float.specs.declared.quant.Quantised.{Quantised}
 use Rattle.table.specs.Cases.{Case, row}
 
 -- m and −m
@@ -46,6 +49,26 @@ coefficientCases =
     row nan (pos 0) ∷
     row (inf false) (pos 127) ∷
     row (inf true) (negℤ (pos 128)) ∷
+    []
+
+-- a coefficient with its mark
+abbrev pub marked : ℤ → Mark → Quantised
+marked k m = record { coefficient = k; mark = number m }
+
+-- Marks, of a 64th of each: 127.49999 and 127.5, −128.49 and −128.5; 127 and −128; both zeros, NaN, the infinities.
+abbrev pub markCases : List (Case Float Quantised)
+markCases =
+    row (fraction 12_749_999 (64 * 100_000)) (marked (pos 127) inside) ∷
+    row (fraction 1_275 (64 * 10)) (marked (pos 127) heldHigh) ∷
+    row (round binary64 true 12_849 (64 * 100)) (marked (negℤ (pos 128)) inside) ∷
+    row (round binary64 true 1_285 (64 * 10)) (marked (negℤ (pos 128)) heldLow) ∷
+    row (fraction 127 64) (marked (pos 127) inside) ∷
+    row (round binary64 true 128 64) (marked (negℤ (pos 128)) inside) ∷
+    row (whole 0) (marked (pos 0) inside) ∷
+    row (minus 0) (marked (pos 0) inside) ∷
+    row nan (marked (pos 0) notANumber) ∷
+    row (inf false) (marked (pos 127) heldHigh) ∷
+    row (inf true) (marked (negℤ (pos 128)) heldLow) ∷
     []
 
 -- Roots: of 2, of the smallest f64 and of three times that, of the largest, of both zeros, of −1, of NaN and of the infinities.

@@ -3,6 +3,7 @@ use Rattle.float.specs.Round.{roundHalfAway}
 use Rattle.float.specs.Root.{root}
 use Rattle.float.specs.Steps.{quantAr}
 use Rattle.float.specs.Coefficient.{coefficient}
+use Rattle.float.specs.Reading.{quantise}
 use Rattle.laws.specs.FloatSums.{sumF}
 use Rattle.positions.specs.Positions.{positions, positionsOf}
 use Rattle.positions.specs.Text.{walk}
@@ -33,9 +34,10 @@ pub record Table : Type 0 where
   -- bins, and how many samples a bin wants
   pub bins : Right Profile.bin Profile.binCases
   pub least-counts : Right Profile.least Profile.leastCases
-  -- * coefficients, by the Rust's steps and in words; roots and rounded numbers
+  -- * coefficients, by the Rust's steps and in words; coefficients with their marks; roots and rounded numbers
   pub quantised : Right quantAr Float.coefficientCases
   pub coefficients : Right coefficient Float.coefficientCases
+  pub marks : Right quantise Float.markCases
   pub roots : Right root Float.rootCases
   pub rounded : Right roundHalfAway Float.roundCases
   -- * solver

@@ -3,7 +3,9 @@ use mathlib.Core.Path.{refl, _∙_}
 use borrow.Author.Needs.{needs}
 use mir.Syntax.{w32}
 use mir.ValLaws.{toZ-ofZ}
+use Rattle.float.specs.Reading.{both}
 use Rattle.chroma_correlation.proofs.Averages.{window-0, sums-small, tap-held}
+use Rattle.chroma_correlation.proofs.Parts.{coefficient-is, mark-is}
 use Rattle.chroma_correlation.proofs.correlate.Statement.{statement}
 use Rattle.chroma_correlation.proofs.correlate.Tie as tie
 
@@ -30,13 +32,19 @@ tap-requires-2 c κs =
 
 returns : tie.Need-returns
 returns c =
-    let T = c .before .before .before .before .before .before in
+    let T = c .before .before .before .before .before .before .before .before in
     let F = entry T .pre in
-    let u = c .before .before .tap in
-    let v = c .tap2 in
-    let blue = toZ-ofZ w32 (u .result) (record { sfits = u .ok }) ∙ u .ensures ∙ tap-held (F .over) (F .luma) (F .cb) (T .tap-sums .ensures .cb-are) (T .tap-sums .ensures .squares-are) in
-    let red = toZ-ofZ w32 (v .result) (record { sfits = v .ok }) ∙ v .ensures ∙ tap-held (F .over) (F .luma) (F .cr) (T .tap-sums .ensures .cr-are) (T .tap-sums .ensures .squares-are) in
-    λ i. record { refusal = 0; cb = blue i; cr = red i }
+    let u = c .before .before .before .before .tap in
+    let v = c .before .before .tap2 in
+    let blue = u .ensures ∙ tap-held (F .over) (F .luma) (F .cb) (T .tap-sums .ensures .cb-are) (T .tap-sums .ensures .squares-are) both in
+    let red = v .ensures ∙ tap-held (F .over) (F .luma) (F .cr) (T .tap-sums .ensures .cr-are) (T .tap-sums .ensures .squares-are) both in
+    λ i. record {
+      refusal = 0;
+      cb = (toZ-ofZ w32 _ (record { sfits = c .before .struct-told .given .0 .1 }) ∙ coefficient-is _ _ blue) i;
+      cr = (toZ-ofZ w32 _ (record { sfits = c .struct-told2 .given .0 .1 }) ∙ coefficient-is _ _ red) i;
+      «cb_mark» = mark-is _ _ blue i;
+      «cr_mark» = mark-is _ _ red i;
+    }
 
 pub correlate-spec : {M : Type 1} → statement M
 correlate-spec =

@@ -1,4 +1,4 @@
--- `fit::fit_ar_lag` meets its contract: the questions, luma's fit, then chroma's. Assumes nothing.
+-- `fit::fit_ar_lag` meets its contract: the questions, luma's fit, then chroma's, each apart. Assumes nothing.
 use mathlib.Core.Path.{sym, _∙_}
 use native.Mathlib.Omega.{arith}
 use denote.Ref.{now}
@@ -16,6 +16,13 @@ use Rattle.fit.proofs.fit_ar_lag.Tie as tie
 granted : (c : tie.Else1) → (let a = c .before .before .before .before .before .before .before .before .args in SeenFrame (geometryOf (a .s)) (now (a .y)) (now (a .yden)) (now (a .cb)) (now (a .cbden)) (now (a .cr)) (now (a .crden)) × (a .lag ≤ 3))
 granted c = fit-seen _ _ _ _ _ _ _ _ (sym (c .before .fit-refusal .ensures) ∙ c .if1 .left)
 
+-- luma's list of both, apart
+abbrev parted : tie.After-all-zero → tie.After-apart
+parted c = c .before .before .before
+
+abbrev solved : tie.After-all-zero → tie.After-luma-fit
+solved c = parted c .before .before .before
+
 returns : tie.Need-returns
 returns c = c .unfitted .ensures ∙ refused _ _ _ _ _ _ _ _ _ (c .before .before .fit-refusal .ensures) (c .before .if1 .taken)
 
@@ -23,22 +30,34 @@ luma-fit-requires : tie.Need-luma-fit-requires
 luma-fit-requires c κs = let g = granted (c .before .before) in (rw (c .before .geometry .ensures) (g .0 .luma), g .1)
 
 all-zero-requires : tie.Need-all-zero-requires
-all-zero-requires c κs = omega (arith, neighbours-le (granted (c .before .before .before .before) .1), c .before .before .neighbour-count .ensures)
+all-zero-requires c κs =
+    let k = c .before .before .before .before .before .before in
+    omega (arith, neighbours-le (granted (k .before .before) .1), k .neighbour-count .ensures)
 
 returns-2 : tie.Need-returns-2
 returns-2 c =
-    let k = c .before .before .before .before .before .before .before in
+    let t = c .before .before in
+    let l = solved t in
+    let k = l .before .before .before in
     c .unfitted2 .ensures
-    ∙ none _ _ _ _ _ _ _ _ _ (k .before .fit-refusal .ensures) (k .if1 .left) _ (c .before .before .before .before .before .before .geometry .ensures) _ (c .before .before .before .before .before .neighbour-count .ensures) _ _ (c .before .before .before .before .luma-fit .ensures) (c .before .before .before .first .ensures) _ (c .before .before .all-zero .ensures) (c .before .if2 .taken)
+    ∙ none _ _ _ _ _ _ _ _ _ (k .before .fit-refusal .ensures) (k .if1 .left) _ (l .before .before .geometry .ensures) _ (l .before .neighbour-count .ensures) _ (l .luma-fit .ensures) _ _ (parted t .apart .ensures) _ (t .all-zero .ensures) (c .before .if2 .taken)
 
 chroma-fit-requires : tie.Need-chroma-fit-requires
-chroma-fit-requires c κs = let g = granted (c .before .before .before .before .before .before) in (rw (c .before .before .before .before .before .geometry .ensures) (g .0), g .1)
+chroma-fit-requires c κs =
+    let l = solved (c .before) in
+    let g = granted (l .before .before .before) in
+    (rw (l .before .before .geometry .ensures) (g .0), g .1)
 
 returns-3 : tie.Need-returns-3
 returns-3 c =
-    let k = c .before .before .before .before .before .before .before .before .before in
-    some _ _ _ _ _ _ _ _ _ (k .before .fit-refusal .ensures) (k .if1 .left) _ (c .before .before .before .before .before .before .before .before .geometry .ensures) _ (c .before .before .before .before .before .before .before .neighbour-count .ensures) _ _ (c .before .before .before .before .before .before .luma-fit .ensures) (c .before .before .before .before .before .first .ensures) _ (c .before .before .before .before .all-zero .ensures) (c .before .before .before .if2 .left)
-    _ _ (c .before .before .chroma-fit .ensures .0) (c .before .before .chroma-fit .ensures .1)
+    let r = c .before .before in
+    let b = r .before .before .before .before .before in
+    let h = b .before .before .before .before .before in
+    let t = h .before .before in
+    let l = solved t in
+    let k = l .before .before .before in
+    some _ _ _ _ _ _ _ _ _ (k .before .fit-refusal .ensures) (k .if1 .left) _ (l .before .before .geometry .ensures) _ (l .before .neighbour-count .ensures) _ (l .luma-fit .ensures) _ _ (parted t .apart .ensures) _ (t .all-zero .ensures) (h .before .if2 .left)
+    _ _ (h .chroma-fit .ensures .0) (h .chroma-fit .ensures .1) _ _ (b .apart2 .ensures) _ _ (r .apart3 .ensures)
 
 pub fit-ar-lag-spec : {M : Type 1} → statement M
 fit-ar-lag-spec =
@@ -50,9 +69,17 @@ fit-ar-lag-spec =
     (λ c κs. search needs)
     (λ c κs. granted (c .before) .1)
     luma-fit-requires
+    (λ c. search needs)
+    (λ c. search needs)
     (λ c κs. search needs)
     all-zero-requires
     (λ c κs. search needs)
     returns-2
     chroma-fit-requires
+    (λ c. search needs)
+    (λ c. search needs)
+    (λ c κs. search needs)
+    (λ c. search needs)
+    (λ c. search needs)
+    (λ c κs. search needs)
     returns-3)

@@ -2,23 +2,20 @@
 use Prim.Native.Nat.{_-_}
 use borrow.Author.Needs.{needs}
 use Rattle.laws.proofs.Fill.{Filled, fill-starts, fill-turn, fill-ends}
-use mathlib.Core.Path.{_∙_}
-use mir.Syntax.{w32}
-use mir.ValLaws.{toZ-ofZ}
-use Rattle.float.specs.Steps.{quantAr}
+use Rattle.float.specs.Reading.{quantise}
 use Rattle.solve.specs.Elimination.{value}
 use Rattle.fit.specs.Steps.{quantised}
 use Rattle.fit.proofs.coefficients.quantise.Statement.{statement}
 use Rattle.fit.proofs.coefficients.quantise.Tie as tie
 
 abbrev Inv-loop : tie.InvT-loop
-Inv-loop x out₀ i₀ out i = Filled (λ k. quantAr (value x k)) out₀ out i
+Inv-loop x out₀ i₀ out i = Filled (λ k. quantise (value x k)) out₀ out i
 
 abbrev μ-loop : tie.MeasureT-loop
 μ-loop x out₀ i₀ out i = 25 - i
 
 loop-again : tie.Need-loop-again Inv-loop μ-loop
-loop-again c = fill-turn _ _ _ (c .before .before .loop .inv) (search needs) (toZ-ofZ w32 _ (record { sfits = c .quant-ar .ok }) ∙ c .quant-ar .ensures)
+loop-again c = fill-turn _ _ _ (c .before .before .loop .inv) (search needs) (c .quant-ar .ensures)
 
 returns : tie.Need-returns Inv-loop μ-loop
 unfolding quantised

@@ -20,8 +20,8 @@ returns c =
     let k = c .before .before .before .before .before .before .before .before .before .before .before .before .before .before .before .before .before .before .before .before .before .pre in
     let t = c .before .before .before .before .before .before .before .before .before .before .before .before .tap-sums .ensures in
     let x = c .before .before .before .before .before .before .before .before .before .nearest-i64-to-f64 .ensures in (
-      component-fit (k .visible .over) (k .visible .luma) (k .visible .cb) (k .few) (k .wide) (k .high) _ (t .squares-are) _ x _ (t .cb-are) _ (rw (← sixteen-bits) (c .before .before .before .before .before .component .ensures)),
-      component-fit (k .visible .over) (k .visible .luma) (k .visible .cr) (k .few) (k .wide) (k .high) _ (t .squares-are) _ x _ (t .cr-are) _ (rw (← sixteen-bits) (c .before .component2 .ensures)),
+      component-fit (k .visible .over) (k .visible .luma) (k .visible .cb) (k .few) (k .wide) (k .high) _ _ (t .squares-are) _ x _ (t .cb-are) _ (rw (← sixteen-bits) (c .before .before .before .before .before .component .ensures)),
+      component-fit (k .visible .over) (k .visible .luma) (k .visible .cr) (k .few) (k .wide) (k .high) _ _ (t .squares-are) _ x _ (t .cr-are) _ (rw (← sixteen-bits) (c .before .component2 .ensures)),
     )
 
 pub chroma-coefficients-spec : {M : Type 1} → statement M

@@ -10,10 +10,10 @@ use Rattle.fit.proofs.planes.chroma_fit.Statement.{statement}
 use Rattle.fit.proofs.planes.chroma_fit.Tie as tie
 
 returns : tie.Need-returns
-returns c = (narrow _ _ _ (c .if1 .taken), narrow _ _ _ (c .if1 .taken))
+returns c = (narrow _ _ _ _ (c .if1 .taken), narrow _ _ _ _ (c .if1 .taken))
 
 returns-2 : tie.Need-returns-2
-returns-2 c = (short _ _ _ (c .if2 .taken), short _ _ _ (c .if2 .taken))
+returns-2 c = (short _ _ _ _ (c .if2 .taken), short _ _ _ _ (c .if2 .taken))
 
 array-borrow-prefix-cbtaps : tie.Need-array-borrow-prefix-cbtaps
 array-borrow-prefix-cbtaps c = omega (arith, factors-few (c .before .before .before .before .before .before .before .before .before .before .before .before .before .before .before .before .pre .1), c .before .neighbour-count .ensures)

@@ -6,7 +6,7 @@ use Rattle.fit.proofs.planes.component.Statement.{statement}
 use Rattle.fit.proofs.planes.component.Tie as tie
 
 returns : tie.Need-returns
-returns c = exact-all _ _ _ _ _ _ (omega (arith, c .before .neighbour-count .ensures)) (c .before .before .before .before .neighbour-sums .ensures .entries) _ (c .coefficients .ensures)
+returns c = exact-all _ _ _ _ _ _ _ (omega (arith, c .before .neighbour-count .ensures)) (c .before .before .before .before .neighbour-sums .ensures .entries) _ (c .coefficients .ensures)
 
 pub component-spec : {M : Type 1} → statement M
 component-spec =

@@ -20,13 +20,13 @@ energy-is c =
 returns : tie.Need-returns
 returns c =
     let k = c .before .before .before .before .before .before .before .before .before .before .pre in
-    flat _ _ (λ z. omega (arith, k .some)) (k .plane .wide) (k .plane .high) _ (energy-is (c .before)) (c .if1 .taken)
+    flat _ _ _ (λ z. omega (arith, k .some)) (k .plane .wide) (k .plane .high) _ (energy-is (c .before)) (c .if1 .taken)
 
 returns-2 : tie.Need-returns-2
 returns-2 c =
     let s = c .before .before .before .before .before .before .before .before in
     let k = s .before .before .before .before .pre in
-    solved _ _ (λ z. omega (arith, k .some)) (k .plane .wide) (k .plane .high) _ (energy-is (c .before .before .before)) (c .before .before .if1 .left)
+    solved _ _ _ (λ z. omega (arith, k .some)) (k .plane .wide) (k .plane .high) _ (energy-is (c .before .before .before)) (c .before .before .if1 .left)
     (seen-samples (k .plane .visible)) _ (s .neighbour-sums .ensures .entries) _ _ _ (c .before .before .before .before .before .before .neighbour-count .ensures) _ (c .coefficients .ensures)
 
 pub luma-coefficients-spec : {M : Type 1} → statement M

@@ -10,13 +10,13 @@ use Rattle.fit.proofs.planes.luma_fit.Statement.{statement}
 use Rattle.fit.proofs.planes.luma_fit.Tie as tie
 
 returns : tie.Need-returns
-returns c = lag-zero _ _ (c .if1 .taken)
+returns c = lag-zero _ _ _ (c .if1 .taken)
 
 returns-2 : tie.Need-returns-2
-returns-2 c = narrow _ _ (c .before .before .if1 .left) (c .if2 .taken)
+returns-2 c = narrow _ _ _ (c .before .before .if1 .left) (c .if2 .taken)
 
 returns-3 : tie.Need-returns-3
-returns-3 c = short _ _ (c .before .before .before .before .if1 .left) (c .before .before .if2 .left) (c .if3 .taken)
+returns-3 c = short _ _ _ (c .before .before .before .before .if1 .left) (c .before .before .if2 .left) (c .if3 .taken)
 
 array-share-prefix-taps : tie.Need-array-share-prefix-taps
 array-share-prefix-taps c = omega (arith, factors-few (c .before .before .before .before .before .before .before .before .before .before .before .pre .1), c .before .neighbour-count .ensures)

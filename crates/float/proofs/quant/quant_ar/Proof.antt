@@ -12,13 +12,17 @@ use Rattle.float.specs.Steps.{quantAr}
 use Rattle.float.proofs.quant.quant_ar.Statement.{statement}
 use Rattle.float.proofs.quant.quant_ar.Tie as tie
 
+mark-of-requires : tie.Need-mark-of-requires
+mark-of-requires c κs =
+    toZ-ofZ w32 _ (record { sfits = c .before .as-i32 .ok })
+    ∙ c .before .as-i32 .ensures
+    ∙ ap (toSigned 31) (c .before .before .round .ensures ∙ ap (λ (x : Float). roundHalfAway (mul binary64 (c .before .before .before .args .c) x)) sixty-four-bits)
+
 returns : tie.Need-returns
 unfolding quantAr
 returns c =
-    toZ-ofZ w32 (c .clamp .result) (record { sfits = c .clamp .ok })
-    ∙ c .clamp .ensures
-    ∙ ap (λ (z : ℤ). clampOf z (negℤ (pos 128)) (pos 127))
-    (toZ-ofZ w32 (c .before .as-i32 .result) (record { sfits = c .before .as-i32 .ok }) ∙ c .before .as-i32 .ensures ∙ ap (toSigned 31) (c .before .before .round .ensures ∙ ap (λ (x : Float). roundHalfAway (mul binary64 (c .before .before .before .args .c) x)) sixty-four-bits))
+    let k = toZ-ofZ w32 (c .before .clamp .result) (record { sfits = c .before .clamp .ok }) ∙ c .before .clamp .ensures ∙ ap (λ (z : ℤ). clampOf z (negℤ (pos 128)) (pos 127)) (mark-of-requires (c .before) tt) in
+    λ i. record { coefficient = k i; mark = c .mark-of .ensures i }
 
 pub quant-ar-spec : {M : Type 1} → statement M
-quant-ar-spec = tie.close (tie.spec (λ c κs. search needs) (λ c κs. search needs) (λ c κs. search needs) returns)
+quant-ar-spec = tie.close (tie.spec (λ c κs. search needs) (λ c κs. search needs) (λ c κs. search needs) mark-of-requires returns)
