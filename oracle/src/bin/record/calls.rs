@@ -119,7 +119,7 @@ impl Call {
         }
     }
 
-    /// The marks of a call: of Y, of Cb and of Cr, then of the luma taps of Cb and of Cr.
+    /// The marks of a fit or a chroma correlation: of Y, of Cb and of Cr, then of the luma taps of Cb and of Cr.
     pub fn marks(self, case: &Case) -> [Vec<Mark>; 5] {
         let pairs = self.pairs(case);
         if refusal(self, case, &pairs) != 0 {
