@@ -1,6 +1,7 @@
 //! The Rust that was ported, built from unchanged files, with every ported function in [`reach`].
 //!
-//! `upstream/` has the files as published; `missing` has what they name and the published part lacks.
+//! `upstream/` has the files as published; `missing` has what they name and the published part lacks. What the Rust keeps
+//! inside of its fits is in [`values`], and what became of it in [`marks`].
 #![allow(dead_code, unused_imports, clippy::all, rustdoc::all)]
 
 mod missing;
@@ -24,6 +25,8 @@ pub mod superres;
 pub mod uncompressed_header_tail;
 
 pub mod encoder;
+pub mod marks;
+pub mod values;
 
 pub use encoder::film_grain_elect::reach;
 pub use encoder::yuv_frame::{ChromaFormat, YuvFrame};

@@ -277,6 +277,15 @@ static void fit_chroma_corr(void)
     SAME(a.refusal, GRAIN_ACCEPTED);
     SAME(a.cb, 9);
     SAME(a.cr, -19);
+    SAME(a.cb_mark, GRAIN_INSIDE);
+    SAME(a.cr_mark, GRAIN_INSIDE);
+    for (int i = 0; i < 2; i++)
+        cb[i] = cr_den[i] = (uint16_t)(i == 0 ? 6 : 24); /* three times luma's averages, and as much below 0 */
+    a = grain_fit_chroma_corr(shape(3, 1, 8, 1), FRAME);
+    SAME(a.cb, 127);
+    SAME(a.cr, -128);
+    SAME(a.cb_mark, GRAIN_HELD_HIGH);
+    SAME(a.cr_mark, GRAIN_HELD_LOW);
     SAME(grain_fit_chroma_corr(shape(4097, 1, 8, 1), FRAME).refusal, GRAIN_SIDE_ABOVE_4096);
     SAME(grain_fit_chroma_corr(shape(3, 0, 8, 1), FRAME).refusal, GRAIN_EMPTY_FRAME);
     SAME(grain_fit_chroma_corr(shape(3, 1, 255, 1), FRAME).refusal, GRAIN_DEPTH);
@@ -287,24 +296,39 @@ static void fit_chroma_corr(void)
     SAME(a.refusal, GRAIN_SAMPLE_ABOVE_DEPTH);
     ZERO(a.cb);
     ZERO(a.cr);
+    ZERO(a.cb_mark);
+    ZERO(a.cr_mark);
 #undef FRAME
     a = grain_fit_chroma_corr(shape(3, 1, 8, 0), LENT(y), NONE, NONE, LENT(y_den), NONE, NONE);
     SAME(a.refusal, GRAIN_ACCEPTED);
     SAME(a.cb, 0);
     SAME(a.cr, 0);
+    SAME(a.cb_mark, GRAIN_INSIDE);
+    SAME(a.cr_mark, GRAIN_INSIDE);
 }
 
 /* ---- Fits ---- */
 
+#define QUANTISED(value, number, kind) \
+    do { \
+        grain_quantised q_ = grain_quant_ar(value); \
+        SAME(q_.coefficient, number); \
+        SAME(q_.mark, kind); \
+    } while (0)
+
 static void quant_ar(void)
 {
-    SAME(grain_quant_ar(0.0078125), 1);
-    SAME(grain_quant_ar(-0.0078125), -1);
-    SAME(grain_quant_ar(1.9921875), 127);
-    SAME(grain_quant_ar(-2.0078125), -128);
-    SAME(grain_quant_ar(NAN), 0);
-    SAME(grain_quant_ar(INFINITY), 127);
-    SAME(grain_quant_ar(-INFINITY), -128);
+    QUANTISED(0.0078125, 1, GRAIN_INSIDE);
+    QUANTISED(-0.0078125, -1, GRAIN_INSIDE);
+    QUANTISED(0.0, 0, GRAIN_INSIDE);
+    QUANTISED(-0.0, 0, GRAIN_INSIDE);
+    QUANTISED(127.49999 / 64, 127, GRAIN_INSIDE);
+    QUANTISED(127.5 / 64, 127, GRAIN_HELD_HIGH);
+    QUANTISED(-128.49 / 64, -128, GRAIN_INSIDE);
+    QUANTISED(-128.5 / 64, -128, GRAIN_HELD_LOW);
+    QUANTISED(INFINITY, 127, GRAIN_HELD_HIGH);
+    QUANTISED(-INFINITY, -128, GRAIN_HELD_LOW);
+    QUANTISED(NAN, 0, GRAIN_NOT_A_NUMBER);
 }
 
 static void solve_normal(void)
@@ -373,50 +397,90 @@ static void ar_positions(void)
     ZERO(p.columns);
 }
 
-/* Noise that follows its neighbours exactly, so that least squares has one answer: luma is its neighbour at (-1,-1), Cb
- * its neighbour at (-1,1) less luma, and Cr luma less its neighbour at (0,-1). Coefficients are 64ths. */
-static void fit_ar_lag(void)
+enum { W = 10, H = 4 };
+
+/* Noise that follows its neighbours exactly, so that least squares has one answer: luma is k times its neighbour at
+ * (-1,-1), Cb its neighbour at (-1,1) less k times luma, and Cr k times luma less its neighbour at (0,-1). */
+static void follow(int k, uint16_t src[3][H * W], uint16_t den[3][H * W])
 {
-    enum { W = 10, H = 8 };
-    static const int free_noise[W + H] = {3, -5, 2, 7, -1, 4, -6, 1, 5, -2, -7, 6, 0, 3, -4, 2, -3, 5};
+    static const int free_noise[W + H] = {3, -5, 2, 7, -1, 4, -6, 1, 5, -2, -7, 6, 0, 3};
     int n[3][H * W];
     for (int r = 0; r < H; r++)
         for (int c = 0; c < W; c++) {
             int i = r * W + c;
-            n[0][i] = free_noise[c - r + H];
-            n[1][i] = r == 0 || c == 0 || c == W - 1 ? free_noise[r + c] : n[1][i - W + 1] - n[0][i];
-            n[2][i] = c == 0 ? free_noise[2 * r] : n[0][i] - n[2][i - 1];
+            n[0][i] = r == 0 || c == 0 ? free_noise[c - r + H] : k * n[0][i - W - 1];
+            n[1][i] = r == 0 || c == 0 || c == W - 1 ? free_noise[r + c] : n[1][i - W + 1] - k * n[0][i];
+            n[2][i] = c == 0 ? free_noise[2 * r] : k * n[0][i] - n[2][i - 1];
         }
-    uint16_t y[H * W], cb[H * W], cr[H * W], y_den[H * W], cb_den[H * W], cr_den[H * W];
-    samples(n[0], H * W, y, y_den);
-    samples(n[1], H * W, cb, cb_den);
-    samples(n[2], H * W, cr, cr_den);
-#define FRAME LENT(y), LENT(cb), LENT(cr), LENT(y_den), LENT(cb_den), LENT(cr_den)
-    grain_fit a = grain_fit_ar_lag(shape(W, H, 10, 3), FRAME, 1);
+    for (int p = 0; p < 3; p++)
+        for (int i = 0; i < H * W; i++) {
+            src[p][i] = (uint16_t)(2048 + n[p][i]);
+            den[p][i] = 2048;
+        }
+}
+
+/* Coefficients are 64ths: where k is 3 they would be 192. */
+static void fit_ar_lag(void)
+{
+    uint16_t src[3][H * W], den[3][H * W];
+#define FRAME LENT(src[0]), LENT(src[1]), LENT(src[2]), LENT(den[0]), LENT(den[1]), LENT(den[2])
+    follow(1, src, den);
+    grain_fit a = grain_fit_ar_lag(shape(W, H, 12, 3), FRAME, 1);
     SAME(a.refusal, GRAIN_ACCEPTED);
     SAME(a.found, true);
     SAME(a.count, 4);
     SAME_ALL(a.luma, 64, 0, 0, 0, 0, 0, 0, 0, 0, 0, 0, 0, 0, 0, 0, 0, 0, 0, 0, 0, 0, 0, 0, 0);
     SAME_ALL(a.cb, 0, 0, 64, 0, -64, 0, 0, 0, 0, 0, 0, 0, 0, 0, 0, 0, 0, 0, 0, 0, 0, 0, 0, 0, 0);
     SAME_ALL(a.cr, 0, 0, 0, -64, 64, 0, 0, 0, 0, 0, 0, 0, 0, 0, 0, 0, 0, 0, 0, 0, 0, 0, 0, 0, 0);
+    ZERO(a.luma_marks);
+    ZERO(a.cb_marks);
+    ZERO(a.cr_marks);
+    follow(3, src, den);
+    a = grain_fit_ar_lag(shape(W, H, 12, 3), FRAME, 1);
+    SAME_ALL(a.luma, 127, 0, 0, 0);
+    SAME_ALL(a.cb, 0, 0, 64, 0, -128);
+    SAME_ALL(a.cr, 0, 0, 0, -64, 127);
+    SAME_ALL(a.luma_marks, GRAIN_HELD_HIGH, 0, 0, 0, 0, 0, 0, 0, 0, 0, 0, 0, 0, 0, 0, 0, 0, 0, 0, 0, 0, 0, 0, 0);
+    SAME_ALL(a.cb_marks, 0, 0, 0, 0, GRAIN_HELD_LOW, 0, 0, 0, 0, 0, 0, 0, 0, 0, 0, 0, 0, 0, 0, 0, 0, 0, 0, 0, 0);
+    SAME_ALL(a.cr_marks, 0, 0, 0, 0, GRAIN_HELD_HIGH, 0, 0, 0, 0, 0, 0, 0, 0, 0, 0, 0, 0, 0, 0, 0, 0, 0, 0, 0, 0);
+    follow(-3, src, den);
+    a = grain_fit_ar_lag(shape(W, H, 12, 3), FRAME, 1);
+    SAME_ALL(a.luma, -128, 0, 0, 0);
+    SAME_ALL(a.luma_marks, GRAIN_HELD_LOW, GRAIN_INSIDE, GRAIN_INSIDE, GRAIN_INSIDE);
+    SAME(a.cb_marks[4], GRAIN_HELD_HIGH);
+    SAME(a.cr_marks[4], GRAIN_HELD_LOW);
+    follow(-2, src, den); /* -128 is inside, 128 is not */
+    a = grain_fit_ar_lag(shape(W, H, 12, 3), FRAME, 1);
+    SAME(a.luma[0], -128);
+    SAME(a.luma_marks[0], GRAIN_INSIDE);
+    SAME(a.cb[4], 127);
+    SAME(a.cb_marks[4], GRAIN_HELD_HIGH);
+    SAME(a.cr[4], -128);
+    SAME(a.cr_marks[4], GRAIN_INSIDE);
 
-    a = grain_fit_ar_lag(shape(2, 2, 10, 0), y, 4, NONE, NONE, y_den, 4, NONE, NONE, 1);
+    a = grain_fit_ar_lag(shape(2, 2, 12, 0), src[0], 4, NONE, NONE, den[0], 4, NONE, NONE, 1);
     SAME(a.refusal, GRAIN_ACCEPTED);
     SAME(a.found, false);
-    SAME(grain_fit_ar_lag(shape(W, H, 10, 3), FRAME, 0).found, false);
-    SAME(grain_fit_ar_lag(shape(W, 4097, 10, 3), FRAME, 1).refusal, GRAIN_SIDE_ABOVE_4096);
-    SAME(grain_fit_ar_lag(shape(W, 0, 10, 3), FRAME, 1).refusal, GRAIN_EMPTY_FRAME);
+    ZERO(a.luma_marks);
+    ZERO(a.cb_marks);
+    ZERO(a.cr_marks);
+    SAME(grain_fit_ar_lag(shape(W, H, 12, 3), FRAME, 0).found, false);
+    SAME(grain_fit_ar_lag(shape(W, 4097, 12, 3), FRAME, 1).refusal, GRAIN_SIDE_ABOVE_4096);
+    SAME(grain_fit_ar_lag(shape(W, 0, 12, 3), FRAME, 1).refusal, GRAIN_EMPTY_FRAME);
     SAME(grain_fit_ar_lag(shape(W, H, 14, 3), FRAME, 1).refusal, GRAIN_DEPTH);
-    SAME(grain_fit_ar_lag(shape(W, H, 10, 4), FRAME, 1).refusal, GRAIN_FORMAT);
-    SAME(grain_fit_ar_lag(shape(W, H, 10, 1), FRAME, 1).refusal, GRAIN_PLANE_LENGTH);
+    SAME(grain_fit_ar_lag(shape(W, H, 12, 4), FRAME, 1).refusal, GRAIN_FORMAT);
+    SAME(grain_fit_ar_lag(shape(W, H, 12, 1), FRAME, 1).refusal, GRAIN_PLANE_LENGTH);
     SAME(grain_fit_ar_lag(shape(W, H, 8, 3), FRAME, 4).refusal, GRAIN_SAMPLE_ABOVE_DEPTH);
-    a = grain_fit_ar_lag(shape(W, H, 10, 3), FRAME, 4);
+    a = grain_fit_ar_lag(shape(W, H, 12, 3), FRAME, 4);
     SAME(a.refusal, GRAIN_LAG_ABOVE_3);
     ZERO(a.found);
     ZERO(a.count);
     ZERO(a.luma);
     ZERO(a.cb);
     ZERO(a.cr);
+    ZERO(a.luma_marks);
+    ZERO(a.cb_marks);
+    ZERO(a.cr_marks);
 #undef FRAME
 }
 

@@ -68,6 +68,8 @@ static void calls(grain_shape s, size_t luma, size_t chroma, bool first)
     SAME(c.refusal, GRAIN_ACCEPTED);
     SAME(c.cb, k.cb);
     SAME(c.cr, k.cr);
+    SAME(c.cb_mark, k.cb_mark);
+    SAME(c.cr_mark, k.cr_mark);
 
     for (size_t lag = 1; lag <= 3; lag++) {
         grain_fit a = grain_fit_ar_lag_planes(s, f, d, lag), b = grain_fit_ar_lag(s, LEND_ALL(f), LEND_ALL(d), lag);
@@ -77,6 +79,9 @@ static void calls(grain_shape s, size_t luma, size_t chroma, bool first)
         SAME_FIELD(a, b, luma);
         SAME_FIELD(a, b, cb);
         SAME_FIELD(a, b, cr);
+        SAME_FIELD(a, b, luma_marks);
+        SAME_FIELD(a, b, cb_marks);
+        SAME_FIELD(a, b, cr_marks);
     }
 
     grain_gate gate = grain_film_grain_probe_planes(s, f.y, d.y, g.y, e.y);

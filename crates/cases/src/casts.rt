@@ -7,6 +7,10 @@ pub fn yes(x: bool) -> u64 {
     0
 }
 
+pub fn wide8(x: u8) -> u64 {
+    x as u64
+}
+
 pub fn wide16(x: u16) -> u64 {
     x as u64
 }

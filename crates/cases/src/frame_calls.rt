@@ -5,6 +5,7 @@ use crate::case::shape_of;
 use crate::casts::signed;
 use crate::casts::yes;
 use crate::digests::coefficients_into;
+use crate::digests::marks_into;
 use crate::digests::numbers_into;
 use crate::digests::samples_into;
 use crate::draws::mixed;
@@ -92,24 +93,32 @@ fn estimate_answer(e: profile::NoiseEstimate, argument: u64) -> Answer {
     }
 }
 
-// Both coefficients in a digest.
+// Both coefficients and both marks in a digest.
 fn correlation_answer(r: chroma_correlation::ChromaCorr) -> Answer {
+    let taps = mixed(mixed(0, signed(r.cb)), signed(r.cr));
     Answer {
         refusal: r.refusal,
-        value: mixed(mixed(0, signed(r.cb)), signed(r.cr)),
+        value: mixed(mixed(taps, r.cb_mark as u64), r.cr_mark as u64),
         figure: 0,
     }
 }
 
-// Whether there is a fit, the count and the coefficients as a digest; the figure is whether there is one.
+// Whether there is a fit, the count, the coefficients and their marks as a digest; the figure is whether there is one.
 fn fit_answer(f: fit::Fit) -> Answer {
     let luma = f.luma;
     let cb = f.cb;
     let cr = f.cr;
+    let luma_marks = f.luma_marks;
+    let cb_marks = f.cb_marks;
+    let cr_marks = f.cr_marks;
     let head = mixed(mixed(0, yes(f.found)), f.count as u64);
+    let taps = coefficients_into(coefficients_into(coefficients_into(head, &luma), &cb), &cr);
     Answer {
         refusal: f.refusal,
-        value: coefficients_into(coefficients_into(coefficients_into(head, &luma), &cb), &cr),
+        value: marks_into(
+            marks_into(marks_into(taps, &luma_marks), &cb_marks),
+            &cr_marks,
+        ),
         figure: yes(f.found),
     }
 }

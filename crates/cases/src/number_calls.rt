@@ -40,10 +40,12 @@ pub fn ar_positions(c: Case) -> Answer {
     positions_answer(positions::ar_positions(c.kind as usize))
 }
 
+// The coefficient and its mark as a digest.
 pub fn quant_ar(c: Case) -> Answer {
+    let q = float::quant_ar(float_of(c.kind));
     Answer {
         refusal: 0,
-        value: signed(float::quant_ar(float_of(c.kind))),
+        value: mixed(mixed(0, signed(q.coefficient)), q.mark as u64),
         figure: 0,
     }
 }

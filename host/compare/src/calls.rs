@@ -109,9 +109,21 @@ const SHAPE: Asks = Asks {
     frame: true,
     ..SIZE_AND_DEPTH
 };
+const ORDER: Asks = Asks {
+    order: true,
+    ..Asks::NOTHING
+};
 
 fn lag(random: &mut Random) -> u64 {
     random.pick(&[0, 1, 1, 1, 2, 2, 2, 3, 3, 3, 3, 4, 5, u64::MAX])
+}
+
+fn order(random: &mut Random) -> u64 {
+    match random.below(20) {
+        0 => random.pick(&[0, 26, 27, 1000, u64::MAX]),
+        1..10 => 1 + random.below(8) as u64,
+        _ => 1 + random.below(25) as u64,
+    }
 }
 
 fn sigma16(random: &mut Random) -> u64 {
@@ -232,6 +244,7 @@ pub const CALLS: &[Call] = &[
         asks: SHAPE,
         lent: FRAME_AND_COPY,
         share: 6,
+        added: rust::correlation_marks,
         timed: &[(0, Some(8.0))],
         ..Call::new(
             "fit_chroma_corr",
@@ -261,6 +274,7 @@ pub const CALLS: &[Call] = &[
         lent: FRAME_AND_COPY,
         number: lag,
         share: 12,
+        added: rust::fit_marks,
         timed: &[(1, Some(35.0)), (2, Some(35.0)), (3, Some(60.0))],
         ..Call::new(
             "fit_ar_lag",
@@ -271,15 +285,8 @@ pub const CALLS: &[Call] = &[
         )
     },
     Call {
-        asks: Asks {
-            order: true,
-            ..Asks::NOTHING
-        },
-        number: |random| match random.below(20) {
-            0 => random.pick(&[0, 26, 27, 1000, u64::MAX]),
-            1..10 => 1 + random.below(8) as u64,
-            _ => 1 + random.below(25) as u64,
-        },
+        asks: ORDER,
+        number: order,
         share: 5,
         timed: &[(24, None)],
         ..Call::new(
@@ -290,8 +297,23 @@ pub const CALLS: &[Call] = &[
             branches::SOLVER,
         )
     },
+    // Every mark: a solution may have any float among its values.
+    Call {
+        asks: ORDER,
+        number: order,
+        share: 3,
+        timed: &[],
+        ..Call::new(
+            "solve_normal/quantised",
+            ours::solve_and_quantise,
+            raw::solve_and_quantise,
+            rust::solve_and_quantise,
+            branches::QUANTISED_SOLUTION,
+        )
+    },
     Call {
         share: 4,
+        added: rust::quantiser_mark,
         ..Call::new(
             "quant_ar",
             ours::quant_ar,

@@ -202,7 +202,8 @@ fn follow(
     max: i32,
 ) {
     let (down, along) = (usize::from(format == 1), usize::from(format <= 2));
-    let part = random.unit() * 3.0 - 1.5;
+    let (any, steep) = (random.unit() * 3.0 - 1.5, random.pick(&noise::STEEP));
+    let part = random.pick(&[any, steep]);
     for r in 0..h {
         for c in 0..w {
             let at = |i: usize, j: usize| {
@@ -211,7 +212,8 @@ fn follow(
             };
             let sum = at(0, 0) + at(down, 0) + at(0, along) + at(down, along);
             let own = noise[r * w + c] / 4;
-            noise[r * w + c] = ((f64::from(sum) / 4.0 * part) as i32 + own).clamp(-max, max);
+            noise[r * w + c] =
+                ((f64::from(sum) / 4.0 * part).round() as i32 + own).clamp(-max, max);
         }
     }
 }

@@ -39,6 +39,8 @@ pub enum Noise {
     NearRamp,
     /// Equal rows with one sample off by one.
     NearRows,
+    /// Each some factor times its left neighbour: coefficients at the ends of their range and past them.
+    Growing,
     /// Chroma's follows luma's average.
     Coupled,
     /// What the denoiser takes from a noisy picture.
@@ -46,7 +48,7 @@ pub enum Noise {
 }
 
 impl Noise {
-    pub const ALL: [Noise; 19] = [
+    pub const ALL: [Noise; 20] = [
         Noise::Flat,
         Noise::Constant,
         Noise::Random,
@@ -64,6 +66,7 @@ impl Noise {
         Noise::Ramp,
         Noise::NearRamp,
         Noise::NearRows,
+        Noise::Growing,
         Noise::Coupled,
         Noise::Denoised,
     ];
@@ -142,6 +145,7 @@ pub fn noise(kind: Noise, random: &mut Random, (w, h): Size, max: i32) -> Vec<i3
             add(random, &mut all, 1, max);
             all
         }
+        Noise::Growing => growing(random, (w, h), max),
     }
 }
 
@@ -163,6 +167,22 @@ fn coloured(random: &mut Random, (w, h): Size, max: i32) -> Vec<i32> {
         let above = if at >= w { all[at - w] } else { 0 };
         let mean = left * f64::from(before) + up * f64::from(above);
         all[at] = (mean as i32 + random.between(-own, own)).clamp(-max, max);
+    }
+    all
+}
+
+/// What gives a coefficient at an end of its range, or past it.
+pub const STEEP: [f64; 4] = [127.0 / 64.0, -2.0, 3.0, -3.0];
+
+/// Rows that grow by one factor, up to some noise in the last column.
+fn growing(random: &mut Random, (w, h): Size, max: i32) -> Vec<i32> {
+    let factor = random.pick(&STEEP);
+    let mut all = vec![0; w * h];
+    for at in (0..w * h).rev() {
+        all[at] = match (at + 1) % w {
+            0 => random.between(-max, max),
+            _ => (f64::from(all[at + 1]) / factor).round() as i32,
+        };
     }
     all
 }

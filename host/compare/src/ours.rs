@@ -3,8 +3,10 @@
 use crate::calls::Words;
 use crate::input::{Input, Planes};
 use crate::rust::STEPS;
-use crate::words::{coefficients, float, positions, solution, whole};
-use grain::{Chroma, Format, Frame, Pair, Profile, RandomRegister, Refusal, Shape, TwoFrames};
+use crate::words::{coefficients, float, positions, quantised, solution, whole};
+use grain::{
+    ArFit, Chroma, Format, Frame, Pair, Profile, RandomRegister, Refusal, Shape, TwoFrames,
+};
 use oracle::YuvFrame;
 
 fn lent<'a>(input: &Input, planes: &'a YuvFrame) -> Result<Frame<'a>, Refusal> {
@@ -76,7 +78,8 @@ pub fn chroma_noise_gate(input: &Input, plane: Chroma) -> Result<Words, Refusal>
 
 pub fn fit_chroma_corr(input: &Input, _: &mut Planes) -> Result<Words, Refusal> {
     let found = grain::fit_chroma_corr(&pair(input, 0)?)?;
-    Ok(vec![whole(found.cb), whole(found.cr)])
+    let (cb_mark, cr_mark) = (found.cb_mark as u64, found.cr_mark as u64);
+    Ok(vec![whole(found.cb), whole(found.cr), cb_mark, cr_mark])
 }
 
 pub fn ar_positions(input: &Input, _: &mut Planes) -> Result<Words, Refusal> {
@@ -85,7 +88,14 @@ pub fn ar_positions(input: &Input, _: &mut Planes) -> Result<Words, Refusal> {
 
 pub fn fit_ar_lag(input: &Input, _: &mut Planes) -> Result<Words, Refusal> {
     let found = grain::fit_ar_lag(&pair(input, 0)?, input.number as usize)?;
-    Ok(coefficients(found.map(|f| (f.lag, [f.y, f.cb, f.cr]))))
+    let marks = found.iter().flat_map(marks).collect();
+    let words = coefficients(found.map(|f| (f.lag, [f.y, f.cb, f.cr])));
+    Ok([words, marks].concat())
+}
+
+fn marks(fit: &ArFit) -> impl Iterator<Item = u64> {
+    let planes = [&fit.y_marks, &fit.cb_marks, &fit.cr_marks];
+    planes.into_iter().flatten().map(|&mark| mark as u64)
 }
 
 pub fn solve_normal(input: &Input, _: &mut Planes) -> Result<Words, Refusal> {
@@ -94,8 +104,19 @@ pub fn solve_normal(input: &Input, _: &mut Planes) -> Result<Words, Refusal> {
     Ok(solution(found))
 }
 
+pub fn solve_and_quantise(input: &Input, _: &mut Planes) -> Result<Words, Refusal> {
+    let system = &input.system;
+    let found = grain::solve_normal(&system.a, &system.b, input.number as usize)?;
+    Ok(quantised(found, quantiser))
+}
+
+fn quantiser(x: f64) -> [u64; 2] {
+    let found = grain::quant_ar(x);
+    [whole(found.coefficient), found.mark as u64]
+}
+
 pub fn quant_ar(input: &Input, _: &mut Planes) -> Result<Words, Refusal> {
-    Ok(vec![whole(grain::quant_ar(input.system.float))])
+    Ok(quantiser(input.system.float).into())
 }
 
 pub fn grain_seed_for(input: &Input, _: &mut Planes) -> Result<Words, Refusal> {

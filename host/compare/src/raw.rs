@@ -5,7 +5,7 @@
 use crate::calls::Words;
 use crate::input::{Input, Planes};
 use crate::rust::STEPS;
-use crate::words::{coefficients, float, positions, solution, whole};
+use crate::words::{coefficients, float, positions, quantised, solution, whole};
 use grain::sys::{self, call};
 use grain::{Format, Shape};
 use oracle::YuvFrame;
@@ -128,7 +128,9 @@ pub fn chroma_noise_gate(input: &Input, component: usize) -> Record {
 
 pub fn fit_chroma_corr(input: &Input, _: &mut Planes) -> Record {
     let found = of_pair!(grain_fit_chroma_corr, input);
-    Record::full(found.refusal, vec![whole(found.cb), whole(found.cr)])
+    let (cb_mark, cr_mark) = (found.cb_mark.into(), found.cr_mark.into());
+    let words = vec![whole(found.cb), whole(found.cr), cb_mark, cr_mark];
+    Record::full(found.refusal, words)
 }
 
 pub fn ar_positions(input: &Input, _: &mut Planes) -> Record {
@@ -148,20 +150,28 @@ pub fn ar_positions(input: &Input, _: &mut Planes) -> Record {
 pub fn fit_ar_lag(input: &Input, _: &mut Planes) -> Record {
     let lag = input.number as usize;
     let found = of_pair!(grain_fit_ar_lag, input, lag);
-    let used = if found.found { found.count } else { 0 };
-    let taps = if found.found { used + 1 } else { 0 };
-    let (y, rest) = found.luma.split_at(used);
-    let ((cb, cb_rest), (cr, cr_rest)) = (found.cb.split_at(taps), found.cr.split_at(taps));
-    let fitted = || (lag as u8, [y, cb, cr].map(<[i32]>::to_vec));
-    let unused = rest.iter().chain(cb_rest).chain(cr_rest).copied();
+    let count = if found.found { found.count } else { 0 };
+    let taps = if found.found { count + 1 } else { 0 };
+    let used = [count, taps, taps];
+    let planes = [&found.luma[..], &found.cb, &found.cr];
+    let marks = [&found.luma_marks[..], &found.cb_marks, &found.cr_marks];
+    let (planes, rest) = parted(planes, used);
+    let (marks, marks_rest) = parted(marks, used);
+    let words = coefficients(found.found.then_some((lag as u8, planes)));
+    let marks = marks.into_iter().flatten().map(u64::from);
+    let rest = rest.map(whole).chain(marks_rest.map(u64::from));
     Record {
         refusal: found.refusal,
-        words: coefficients(found.found.then(fitted)),
-        unused: unused
-            .map(whole)
-            .chain([(found.count - used) as u64])
-            .collect(),
+        words: words.into_iter().chain(marks).collect(),
+        unused: rest.chain([(found.count - count) as u64]).collect(),
     }
+}
+
+/// The elements in use of the lists of Y, Cb and Cr, and the others.
+fn parted<T: Copy>(lists: [&[T]; 3], used: [usize; 3]) -> ([Vec<T>; 3], impl Iterator<Item = T>) {
+    let parts = [0, 1, 2].map(|i| lists[i].split_at(used[i]));
+    let others = parts.into_iter().flat_map(|(_, others)| others);
+    (parts.map(|(used, _)| used.to_vec()), others.copied())
 }
 
 pub fn solve_normal(input: &Input, _: &mut Planes) -> Record {
@@ -179,12 +189,24 @@ pub fn solve_normal(input: &Input, _: &mut Planes) -> Record {
     }
 }
 
-pub fn quant_ar(input: &Input, _: &mut Planes) -> Record {
+pub fn solve_and_quantise(input: &Input, planes: &mut Planes) -> Record {
+    let solved = solve_normal(input, planes);
+    let (&found, values) = solved.words.split_first().expect("whether there is one");
+    let values = values.iter().map(|&bits| f64::from_bits(bits)).collect();
+    Record {
+        words: quantised((found == 1).then_some(values), quantiser),
+        ..solved
+    }
+}
+
+fn quantiser(x: f64) -> [u64; 2] {
     // SAFETY: a number alone is passed.
-    Record::full(
-        0,
-        vec![whole(unsafe { sys::grain_quant_ar(input.system.float) })],
-    )
+    let found = unsafe { sys::grain_quant_ar(x) };
+    [whole(found.coefficient), found.mark.into()]
+}
+
+pub fn quant_ar(input: &Input, _: &mut Planes) -> Record {
+    Record::full(0, quantiser(input.system.float).into())
 }
 
 pub fn grain_seed_for(input: &Input, _: &mut Planes) -> Record {

@@ -2,9 +2,8 @@
 
 use crate::calls::Words;
 use crate::input::{Input, Planes};
-use crate::words::{coefficients, float, positions, solution, whole};
-use oracle::RandomRegister;
-use oracle::reach;
+use crate::words::{coefficients, float, positions, quantised, solution, whole};
+use oracle::{RandomRegister, marks, reach};
 
 /// How often a register is stepped in one case.
 pub const STEPS: usize = 5;
@@ -82,6 +81,11 @@ pub fn fit_chroma_corr(input: &Input, _: &mut Planes) -> Words {
     found.cb.into_iter().chain(found.cr).map(whole).collect()
 }
 
+pub fn correlation_marks(input: &Input) -> Words {
+    let marks = marks::fit_chroma_corr(&input.frames[0], &input.denoised[0]);
+    marks.map(|mark| mark as u64).into()
+}
+
 pub fn ar_positions(input: &Input, _: &mut Planes) -> Words {
     positions(reach::ar_positions(input.number as usize))
 }
@@ -91,15 +95,36 @@ pub fn fit_ar_lag(input: &Input, _: &mut Planes) -> Words {
     coefficients(found.map(|f| (f.lag, [f.y, f.cb, f.cr])))
 }
 
-pub fn solve_normal(input: &Input, _: &mut Planes) -> Words {
+pub fn fit_marks(input: &Input) -> Words {
+    let lag = input.number as usize;
+    let found = marks::fit_ar_lag(&input.frames[0], &input.denoised[0], lag);
+    let planes = found.into_iter().flatten();
+    planes.flatten().map(|mark| mark as u64).collect()
+}
+
+fn solved(input: &Input) -> Option<Vec<f64>> {
     let order = input.number as usize;
     let rows = input.system.a[..order].iter();
     let a = rows.map(|row| row[..order].to_vec()).collect();
-    solution(reach::solve_normal(a, input.system.b[..order].to_vec()))
+    reach::solve_normal(a, input.system.b[..order].to_vec())
+}
+
+pub fn solve_normal(input: &Input, _: &mut Planes) -> Words {
+    solution(solved(input))
+}
+
+pub fn solve_and_quantise(input: &Input, _: &mut Planes) -> Words {
+    quantised(solved(input), |x| {
+        [whole(reach::quant_ar(x)), marks::quant_ar(x) as u64]
+    })
 }
 
 pub fn quant_ar(input: &Input, _: &mut Planes) -> Words {
     vec![whole(reach::quant_ar(input.system.float))]
+}
+
+pub fn quantiser_mark(input: &Input) -> Words {
+    vec![marks::quant_ar(input.system.float) as u64]
 }
 
 pub fn grain_seed_for(input: &Input, _: &mut Planes) -> Words {

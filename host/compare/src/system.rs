@@ -38,7 +38,8 @@ fn value(random: &mut Random, kind: usize) -> f64 {
 
 /// A float whose 64-fold is near a half, an end of the range, or anything at all.
 fn coefficient(random: &mut Random) -> f64 {
-    let half = (f64::from(random.between(-260, 260)) + 0.5) / 64.0;
+    let any = random.between(-260, 260);
+    let half = (f64::from(random.pick(&[any, any, -129, 127])) + 0.5) / 64.0;
     match random.below(6) {
         0 => half,
         1 => f64::from_bits(half.to_bits() + 1),

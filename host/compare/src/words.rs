@@ -24,7 +24,15 @@ pub fn solution(found: Option<Vec<f64>>) -> Words {
     })
 }
 
-/// 0, or 1, the lag and the coefficients of Y, Cb and Cr.
+/// 0, or 1 and each value of a solution, quantised: its coefficient, then its mark.
+pub fn quantised(found: Option<Vec<f64>>, quantiser: fn(f64) -> [u64; 2]) -> Words {
+    found.map_or(vec![0], |x| {
+        let each = x.into_iter().flat_map(quantiser);
+        [1].into_iter().chain(each).collect()
+    })
+}
+
+/// 0, or 1, the lag and the coefficients of Y, Cb and Cr. Their marks come behind.
 pub fn coefficients(found: Option<(u8, [Vec<i32>; 3])>) -> Words {
     found.map_or(vec![0], |(lag, planes)| {
         let taps = planes.into_iter().flatten().map(whole);

@@ -65,6 +65,19 @@ fn formats() {
 }
 
 #[test]
+fn marks() {
+    let named = [
+        Mark::Inside,
+        Mark::HeldLow,
+        Mark::HeldHigh,
+        Mark::NotANumber,
+    ]
+    .map(|mark| (constant(&format!("{mark:?}")), mark as u32));
+    let listed = constants("grain_mark").into_iter();
+    assert!(listed.map(|(name, n)| (name.to_string(), n)).eq(named));
+}
+
+#[test]
 fn limit_and_version() {
     assert_eq!(defined("GRAIN_MAX_SIDE"), SIDE_LIMIT.to_string());
     let version = ["MAJOR", "MINOR", "PATCH"].map(|part| defined(&format!("GRAIN_VERSION_{part}")));

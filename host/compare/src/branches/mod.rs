@@ -12,7 +12,7 @@ use crate::input::{Input, Plane};
 pub use fits::{CHROMA_CORRELATION, FIT};
 pub use gates::{CB_GATE, CR_GATE, LUMA_GATE, ROW_CORRELATION};
 pub use profiles::{PROFILE, SIGMA16};
-pub use solver::{QUANTISER, SOLVER};
+pub use solver::{QUANTISED_SOLUTION, QUANTISER, SOLVER};
 
 /// The branches that a case takes.
 pub type Taken = Vec<&'static str>;

@@ -71,6 +71,20 @@ fn pivots(input: &Input) -> Vec<Pivot> {
     found
 }
 
+pub const QUANTISED_SOLUTION: Branches = Branches {
+    all: &["no solution", "inside", "held low", "held high", "NaN"],
+    taken: |_, words| {
+        let has = |mark| words[1..].chunks(2).any(|pair| pair[1] == mark);
+        those([
+            ("no solution", words[0] == 0),
+            ("inside", has(0)),
+            ("held low", has(1)),
+            ("held high", has(2)),
+            ("NaN", has(3)),
+        ])
+    },
+};
+
 pub const QUANTISER: Branches = Branches {
     all: &[
         "NaN",

@@ -2,6 +2,7 @@
 use crate::draws::{bits, digest, signed};
 use crate::planes::{Case, Pair};
 use crate::questions::refusal;
+use oracle::marks::{self, Mark};
 use oracle::{ChromaFormat, YuvFrame, reach};
 
 #[derive(Clone, Copy, PartialEq, Eq)]
@@ -112,11 +113,27 @@ impl Call {
                 ))
             }
             Call::NoiseEstimate | Call::FitChromaCorr | Call::FitArLag => {
-                let source = frame(case, [&pairs[0].src, &pairs[1].src, &pairs[2].src]);
-                let denoised = frame(case, [&pairs[0].den, &pairs[1].den, &pairs[2].den]);
+                let [source, denoised] = frames(case, pairs);
                 self.of_frames(&source, &denoised, lag)
             }
         }
+    }
+
+    /// The marks of a fit or a chroma correlation: of Y, of Cb and of Cr, then of the luma taps of Cb and of Cr.
+    pub fn marks(self, case: &Case) -> [Vec<Mark>; 5] {
+        let pairs = self.pairs(case);
+        if refusal(self, case, &pairs) != 0 {
+            return Default::default();
+        }
+        let [source, denoised] = frames(case, &pairs);
+        if self == Call::FitChromaCorr {
+            let [cb, cr] = marks::fit_chroma_corr(&source, &denoised);
+            return [vec![], vec![], vec![], vec![cb], vec![cr]];
+        }
+        let found = marks::fit_ar_lag(&source, &denoised, case.argument as usize);
+        let [y, mut cb, mut cr] = found.unwrap_or_default();
+        let [cb_tap, cr_tap] = [&mut cb, &mut cr].map(|all| all.pop().into_iter().collect());
+        [y, cb, cr, cb_tap, cr_tap]
     }
 
     fn of_frames(self, source: &YuvFrame, denoised: &YuvFrame, lag: usize) -> u64 {
@@ -130,28 +147,41 @@ impl Call {
             }
             Call::FitChromaCorr => {
                 let fit = reach::fit_chroma_corr(source, denoised);
-                digest([signed(fit.cb[0]), signed(fit.cr[0])])
+                let taps = [fit.cb[0], fit.cr[0]].map(signed);
+                let marks = marks::fit_chroma_corr(source, denoised).map(|m| m as u64);
+                digest(taps.into_iter().chain(marks))
             }
             _ => match reach::fit_ar_lag(source, denoised, lag) {
                 None => 0,
                 Some(fit) => {
-                    let padded = |c: &[i32], n: usize| {
-                        let mut all: Vec<u64> = c.iter().map(|&x| signed(x)).collect();
-                        all.resize(n, 0);
-                        all
-                    };
-                    let head = vec![1, fit.y.len() as u64];
-                    let parts = [
-                        head,
-                        padded(&fit.y, 24),
-                        padded(&fit.cb, 25),
-                        padded(&fit.cr, 25),
-                    ];
-                    digest(parts.into_iter().flatten())
+                    let head = [1, fit.y.len() as u64];
+                    let taps = [fit.y, fit.cb, fit.cr].map(|c| c.into_iter().map(signed).collect());
+                    let marks = marks::fit_ar_lag(source, denoised, lag).expect("of a fit");
+                    let marks = marks.map(|m| m.into_iter().map(|m| m as u64).collect());
+                    digest(head.into_iter().chain(whole(taps)).chain(whole(marks)))
                 }
             },
         }
     }
+}
+
+/// The values of Y, Cb and Cr with the zeros of unused places.
+fn whole(planes: [Vec<u64>; 3]) -> impl Iterator<Item = u64> {
+    planes
+        .into_iter()
+        .zip([24, 25, 25])
+        .flat_map(|(mut all, n)| {
+            all.resize(n, 0);
+            all
+        })
+}
+
+/// The frame of three pairs, and its denoised copy.
+fn frames(case: &Case, pairs: &[Pair]) -> [YuvFrame; 2] {
+    [
+        frame(case, [&pairs[0].src, &pairs[1].src, &pairs[2].src]),
+        frame(case, [&pairs[0].den, &pairs[1].den, &pairs[2].den]),
+    ]
 }
 
 fn frame(case: &Case, planes: [&Vec<u16>; 3]) -> YuvFrame {

@@ -3,6 +3,7 @@ use crate::calls::Call;
 use crate::draws::{bits, digest, next, signed};
 use crate::planes::Case;
 use crate::systems::row;
+use oracle::marks::{self, Mark};
 use oracle::{RandomRegister, reach};
 
 type Lines = Vec<Vec<u64>>;
@@ -33,7 +34,7 @@ pub fn all() -> Vec<(&'static str, Lines)> {
         ("film_grain_probe", on_planes(Call::FilmGrainProbe, 200)),
         ("chroma_noise_gate", on_planes(Call::ChromaNoiseGate, 200)),
         ("fit_chroma_corr", on_planes(Call::FitChromaCorr, 150)),
-        ("fit_ar_lag", on_planes(Call::FitArLag, 150)),
+        ("fit_ar_lag", on_planes(Call::FitArLag, 126)),
         ("ar_positions", positions()),
         ("solve_normal", systems()),
         ("quant_ar", coefficients()),
@@ -164,6 +165,7 @@ fn on_planes(call: Call, random: u64) -> Lines {
     }
     if call == Call::FitArLag {
         cases.extend(around_lags(&mut c));
+        cases.extend(few_equations(&mut c));
     }
     // Empty planes, which a frame may not have.
     for (width, height) in [
@@ -185,6 +187,9 @@ fn on_planes(call: Call, random: u64) -> Lines {
     cases.extend(refused(call));
     for (i, case) in cases.iter_mut().enumerate() {
         case.seed = i as u32 + 1;
+    }
+    if matches!(call, Call::FitChromaCorr | Call::FitArLag) {
+        assert_every_mark(call, &cases);
     }
     cases.iter().map(|case| line(call, case)).collect()
 }
@@ -218,6 +223,43 @@ fn around_lags(c: &mut Choice) -> Vec<Case> {
         }
     }
     cases
+}
+
+/// No more equations than chroma has unknowns: coefficients past the ends of their range.
+fn few_equations(c: &mut Choice) -> Vec<Case> {
+    let mut cases = Vec::new();
+    for (argument, width, height) in [(1, 3, 6), (2, 5, 15), (3, 11, 8)] {
+        for _ in 0..8 {
+            cases.push(Case {
+                kind: c.of(&[33, 49]),
+                share: c.below(17),
+                width,
+                height,
+                depth: c.of(&DEPTHS),
+                format: 3,
+                argument,
+                ..Case::default()
+            });
+        }
+    }
+    cases
+}
+
+/// Every mark but NaN is met where the call has coefficients. NaN is met by the quantiser alone.
+fn assert_every_mark(call: Call, cases: &[Case]) {
+    let mut met: [Vec<Mark>; 5] = Default::default();
+    for case in cases {
+        for (all, more) in met.iter_mut().zip(call.marks(case)) {
+            all.extend(more);
+        }
+    }
+    let places = ["Y", "Cb", "Cr", "Cb's luma tap", "Cr's luma tap"];
+    for (place, all) in places.into_iter().zip(met) {
+        for mark in [Mark::Inside, Mark::HeldLow, Mark::HeldHigh] {
+            let is_met = all.is_empty() || all.contains(&mark);
+            assert!(is_met, "{place}: no {mark:?} is recorded");
+        }
+    }
 }
 
 /// A call that is accepted.
@@ -402,7 +444,10 @@ fn coefficients() -> Lines {
     floats
         .into_iter()
         .chain(any.collect::<Vec<_>>())
-        .map(|x| vec![0, signed(reach::quant_ar(x)), x.to_bits()])
+        .map(|x| {
+            let answer = digest([signed(reach::quant_ar(x)), marks::quant_ar(x) as u64]);
+            vec![0, answer, x.to_bits()]
+        })
         .collect()
 }
 

@@ -2,7 +2,8 @@
 //!
 //! A line is whole numbers: the refusal, the answer, and the numbers that the call is made from, without the zeros at the
 //! end. The answers are the Rust's; it refuses nothing, so the refused calls and their numbers are the scope's own
-//! (`questions`). A long answer is a digest, and a float its bits.
+//! (`questions`), and it marks nothing, so the marks are those of `oracle::marks`. A long answer is a digest, and a float
+//! its bits.
 mod calls;
 mod draws;
 mod lists;

@@ -5,10 +5,10 @@ use Rattle.cases.proofs.digests.values_into.Statement.{statement}
 use Rattle.cases.proofs.digests.values_into.Tie as tie
 
 abbrev Inv-loop : tie.InvT-loop
-Inv-loop digest samples numbers floats coefficients count d₀ i₀ d i = i ≤ count
+Inv-loop digest samples numbers floats coefficients marks count d₀ i₀ d i = i ≤ count
 
 abbrev μ-loop : tie.MeasureT-loop
-μ-loop digest samples numbers floats coefficients count d₀ i₀ d i = count - i
+μ-loop digest samples numbers floats coefficients marks count d₀ i₀ d i = count - i
 
 pub values-into-spec : {M : Type 1} → statement M
 values-into-spec =
