@@ -7,7 +7,6 @@ use Rattle.frame.specs.Questions.{accepted}
 use Rattle.frame.specs.Calls.{frameRefusal}
 use Rattle.frame.specs.declared.Shape.{Shape}
 use Rattle.frame.specs.declared.view.Geometry.{Geometry}
-use Rattle.float.specs.Mark.{number, inside}
 use Rattle.float.specs.Reading.{coefficients, marks}
 use Rattle.noise.specs.Seen.{seen}
 use Rattle.noise.specs.Average.{lumaSeen}
@@ -15,7 +14,7 @@ use Rattle.chroma_correlation.specs.Steps.{corr}
 use Rattle.chroma_correlation.specs.declared.ChromaCorr.{ChromaCorr}
 
 abbrev pub refused : ℕ → ChromaCorr
-refused n = record { refusal = n; cb = pos 0; cr = pos 0; «cb_mark» = number inside; «cr_mark» = number inside }
+refused n = record { refusal = n; cb = pos 0; cr = pos 0; «cb_mark» = 0; «cr_mark» = 0 }
 
 -- the correlations of a frame, as a geometry shows it
 abbrev pub correlations : Geometry → List ℕ → List ℕ → List ℕ → List ℕ → List ℕ → List ℕ → ChromaCorr

@@ -15,7 +15,7 @@ use Rattle.noise.specs.Noise.{Pair}
 use Rattle.noise.specs.Average.{Luma, lumaSeen}
 use Rattle.noise.specs.Seen.{seen}
 use Rattle.positions.specs.Counts.{neighbours}
-use Rattle.fit.specs.Steps.{zeros, lumaFit, chromaFit}
+use Rattle.fit.specs.Steps.{lumaFit, chromaFit}
 use Rattle.fit.specs.declared.Fit.{Fit}
 
 -- `y.iter().all(|&c| c == 0)`, of the first n
@@ -37,12 +37,12 @@ unfit n =
       refusal = n;
       found = false;
       count = 0;
-      luma = replicate 24 (coefficients .unquantised);
-      cb = zeros coefficients;
-      cr = zeros coefficients;
-      «luma_marks» = replicate 24 (marks .unquantised);
-      «cb_marks» = zeros marks;
-      «cr_marks» = zeros marks;
+      luma = replicate 24 (pos 0);
+      cb = replicate 25 (pos 0);
+      cr = replicate 25 (pos 0);
+      «luma_marks» = replicate 24 0;
+      «cb_marks» = replicate 25 0;
+      «cr_marks» = replicate 25 0;
     }
 
 -- a fit of a luma plane and two chroma planes
