@@ -3,14 +3,12 @@ use mathlib.Core.Path.{_≡_, refl, sym, ap, _∙_}
 use mathlib.Core.Bool.{Bool, true, false, cond, true≢false}
 use mathlib.Core.List.{List}
 use Prim.Native.Nat.{ℕ, _*_, _<_}
-use native.Mathlib.Nat.{lt-of-lt-of-le, mul-pos}
+use native.Mathlib.Nat.{lt-of-lt-of-le}
 use native.Mathlib.Omega.{arith}
-use lib.Dec.{eqb, leb}
-use lib.ListN.{length, getD}
+use lib.ListN.{getD}
 use lib.Ieee.{le}
-use borrow.Author.Tests.{eqb-true, leb-true, leb-false, ne-eqb}
+use borrow.Author.Tests.{leb-true, leb-false}
 use Rattle.laws.specs.Scaled.{plusZero}
-use Rattle.laws.proofs.Table.{getD-tabulate}
 use Rattle.float.specs.Reading.{Reading, coefficients, marks}
 use Rattle.frame.specs.Calls.{fitRefusal}
 use Rattle.frame.specs.Planes.{geometryOf}
@@ -21,16 +19,19 @@ use Rattle.noise.specs.Average.{Luma}
 use Rattle.noise.specs.Noise.{Pair}
 use Rattle.positions.specs.Counts.{neighbours, factors}
 use Rattle.positions.proofs.Counts.{neighbours-le}
-use Rattle.solve.specs.Elimination.{Row, value}
+use Rattle.solve.specs.Elimination.{value}
 use Rattle.solve.specs.declared.Solved.{Solved}
 use Rattle.fit.specs.Steps.{quantised, coefficientsOf, energyF, lumaFit, chromaFit}
-use Rattle.fit.specs.Answer.{allZero, firstOf, lumaFirst, unfit, foundOf, fitOf, lumaOf, planeOf, fitAnswer}
+use Rattle.fit.specs.Answer.{allZero, lumaFirst, unfit, foundOf, fitOf, lumaOf, planeOf, fitAnswer}
 use Rattle.fit.specs.Words.{lumaSolved, chromaSolved, NoFit, lagZero, narrow, short, still, unsolved, NoChroma, Carried}
 use Rattle.fit.specs.declared.Fit.{Fit}
 use Rattle.fit.proofs.Answers.{accepted-is}
 use Rattle.fit.proofs.Energy.{flat-still}
 use Rattle.fit.proofs.NoFit.{limited, bounded, no-fit-if}
+use Rattle.fit.proofs.Places.{quantised-at, first-at}
 use Rattle.fit.proofs.Rooms.{factors-few}
+use Rattle.fit.proofs.LumaSteps as luma-steps
+use Rattle.fit.proofs.ChromaSteps as chroma-steps
 
 not-true : (b : Bool) → (b ≡ true → ⊥) → b ≡ false
 not-true true f = absurd (f refl)
@@ -43,11 +44,6 @@ not-false false f = absurd (f refl)
 picked : (b : Bool) (f : Fit) → (cond b (unfit 0) f) .found ≡ true → cond b (unfit 0) f ≡ f
 picked true f e = absurd (true≢false (sym e))
 picked false f e = refl
-
--- of 25 quantised values
-quantised-at : {A : Type 0} (R : Reading A) (x : Row) (i : ℕ) → i < 25 → getD (quantised R x) i (R .unquantised) ≡ R .of (value x i)
-unfolding quantised
-quantised-at R x i l = getD-tabulate 25 (λ k. R .of (value x k)) i (R .unquantised) l
 
 module _ (s : Shape) (y cb cr y-denoised cb-denoised cr-denoised : List ℕ) (lag : ℕ) (passed : fitRefusal s y cb cr y-denoised cb-denoised cr-denoised lag ≡ 0)
     (found : fitAnswer s y cb cr y-denoised cb-denoised cr-denoised lag .found ≡ true) where
@@ -68,26 +64,26 @@ module _ (s : Shape) (y cb cr y-denoised cb-denoised cr-denoised : List ℕ) (la
   some-fit n = true≢false (sym found ∙ ap (λ (f : Fit). f .found) (no-fit-if s y cb cr y-denoised cb-denoised cr-denoised lag passed n))
 
   luma-solved : {A : Type 0} (R : Reading A) → lumaFit R (luma .plane) lag ≡ quantised R (lumaSolved (luma .plane) lag .solution .values)
-  unfolding lumaFit coefficientsOf
+  unfolding coefficientsOf
   luma-solved R =
       let p = luma .plane in
-      let a = not-true (eqb lag 0) (λ t. some-fit (lagZero (eqb-true lag 0 t))) in
-      let b = not-true (leb (p .width) (2 * lag)) (λ t. some-fit (narrow (leb-true (p .width) (2 * lag) t))) in
-      let c = not-true (leb (p .height) lag) (λ t. some-fit (short (leb-true (p .height) lag t))) in
-      let d = not-true (le (energyF p lag) plusZero) (λ t. some-fit (still (flat-still p lag (limited s y cb cr y-denoised cb-denoised cr-denoised lag passed) (bounded s y cb cr y-denoised cb-denoised cr-denoised lag passed (leb-false (p .width) (2 * lag) b) (leb-false (p .height) lag c)) t))) in
+      let wide = leb-false (p .width) (2 * lag) (not-true _ (λ t. some-fit (narrow (leb-true (p .width) (2 * lag) t)))) in
+      let high = leb-false (p .height) lag (not-true _ (λ t. some-fit (short (leb-true (p .height) lag t)))) in
+      let S = limited s y cb cr y-denoised cb-denoised cr-denoised lag passed in
+      let B = bounded s y cb cr y-denoised cb-denoised cr-denoised lag passed wide high in
+      let d = not-true (le (energyF p lag) plusZero) (λ t. some-fit (still (flat-still p lag S B t))) in
       let e = not-false (lumaSolved p lag .found) (λ t. some-fit (unsolved t)) in
-      rw (a, b, c, d, e)
+      luma-steps.tested R p lag (λ z. some-fit (lagZero z)) wide high _ refl d ∙ rw e
 
-  first-at : {A : Type 0} (R : Reading A) (i : ℕ) → i < neighbours lag → getD (lumaFirst R luma lag) i (R .unquantised) ≡ R .of (value (lumaSolved (luma .plane) lag .solution .values) i)
-  unfolding firstOf
-  first-at R i l =
+  luma-at : {A : Type 0} (R : Reading A) (i : ℕ) → i < neighbours lag → getD (lumaFirst R luma lag) i (R .unquantised) ≡ R .of (value (lumaSolved (luma .plane) lag .solution .values) i)
+  luma-at R i l =
       let k : i < 24 = lt-of-lt-of-le l (neighbours-le (fit-call s y cb cr y-denoised cb-denoised cr-denoised lag passed .lag-known)) in
-      getD-tabulate 24 (λ j. getD (lumaFit R (luma .plane) lag) j (R .unquantised)) i (R .unquantised) k
+      first-at R (lumaFit R (luma .plane) lag) i k
       ∙ ap (λ (x : List _). getD x i (R .unquantised)) (luma-solved R)
       ∙ quantised-at R (lumaSolved (luma .plane) lag .solution .values) i (omega arith)
 
   pub luma-carried : Carried (answer .luma) (answer .«luma_marks») (lumaSolved (luma .plane) lag) (neighbours lag)
-  luma-carried = rw answer-is (record { quantised = first-at coefficients; marked = first-at marks })
+  luma-carried = rw answer-is (record { quantised = luma-at coefficients; marked = luma-at marks })
 
   -- a chroma plane
   module _ (source denoised : List ℕ) (some : NoChroma (s .format) luma (planeOf s source denoised) lag → ⊥) where
@@ -98,20 +94,12 @@ module _ (s : Shape) (y cb cr y-denoised cb-denoised cr-denoised : List ℕ) (la
     r = chromaSolved luma plane lag
 
     chroma-solved : {A : Type 0} (R : Reading A) → chromaFit R luma plane lag ≡ quantised R (r .solution .values)
-    unfolding chromaFit coefficientsOf
+    unfolding coefficientsOf
     chroma-solved R =
-        let b = not-true (leb (plane .width) (2 * lag)) (λ t. some (narrow (leb-true (plane .width) (2 * lag) t))) in
-        let c = not-true (leb (plane .height) lag) (λ t. some (short (leb-true (plane .height) lag t))) in
+        let wide = leb-false (plane .width) (2 * lag) (not-true _ (λ t. some (narrow (leb-true (plane .width) (2 * lag) t)))) in
+        let high = leb-false (plane .height) lag (not-true _ (λ t. some (short (leb-true (plane .height) lag t)))) in
         let e = not-false (r .found) (λ t. some (unsolved t)) in
-        let a = ne-eqb (length (plane .source)) 0 (full (leb-false (plane .width) (2 * lag) b) (leb-false (plane .height) lag c)) in
-        rw (a, b, c, e)
-      where
-        full : 2 * lag < plane .width → lag < plane .height → length (plane .source) ≡ 0 → ⊥
-        full wide high z =
-            let k : 0 < plane .width = omega arith in
-            let l : 0 < plane .height = omega arith in
-            let p : 0 < plane .width * plane .height = mul-pos k l in
-            omega (arith, viewed-length (geometryOf s .chroma) source)
+        chroma-steps.tested R luma plane lag (viewed-length (geometryOf s .chroma) source) wide high ∙ rw e
 
     each : {A : Type 0} (R : Reading A) (i : ℕ) → i < factors lag → getD (chromaFit R luma plane lag) i (R .unquantised) ≡ R .of (value (r .solution .values) i)
     each R i l =

@@ -1,5 +1,5 @@
 -- The chroma fits, from the tests that their code makes. Assumes nothing.
-use mathlib.Core.Path.{_≡_, refl, ap, _∙_}
+use mathlib.Core.Path.{_≡_, refl, sym, ap, _∙_}
 use mathlib.Core.Bool.{Bool, true, false, _||_}
 use mathlib.Core.List.{List}
 use Prim.Native.Nat.{ℕ, _*_, _^_, _≤_, _<_}
@@ -37,7 +37,8 @@ use Rattle.positions.specs.Counts.{factors}
 use Rattle.normal.specs.Normal.{entry, tapEntry, tapSquare}
 use Rattle.normal.specs.Calls.{Window}
 use Rattle.normal.proofs.Bounds.{tap-bound, square-bound}
-use Rattle.fit.specs.Steps.{zeros, chromaFit}
+use Rattle.fit.specs.Steps.{zeros, coefficientsOf, chromaFit}
+use Rattle.fit.specs.Words.{chromaSolved}
 use Rattle.fit.specs.Sums.{exactFit}
 use Rattle.fit.proofs.ExactFit.{chroma-exact}
 
@@ -54,17 +55,11 @@ module _ {A : Type 0} (R : Reading A) (l : Luma) (plane : Pair) (lag : ℕ) wher
   unfolding chromaFit
   short a = rw (le-leb (plane .height) lag a, any (leb (plane .width) (2 * lag)), any (eqb (length (plane .source)) 0))
 
-  module _ (size : length (plane .source) ≡ plane .width * plane .height) (wide : 2 * lag < plane .width) (high : lag < plane .height)
-      (S : Limited planeLimit sampleLimit (own plane)) (L : Limited planeLimit sampleLimit (average l)) (T : InFit plane lag (average l)) where
-    solved : (entries : ℕ → ℕ → ℤ) → ((i j : ℕ) → i < factors lag → j < factors lag → entries i j ≡ entry (noiseOf plane) (plane .width) (plane .height) lag i j)
-        → (taps : ℕ → ℤ) → ((i : ℕ) → i < factors lag → taps i ≡ tapEntry (noiseOf plane) (quarters l) (plane .width) (plane .height) lag i)
-        → ((i : ℕ) → i < factors lag → natAbs (tapEntry (noiseOf plane) (quarters l) (plane .width) (plane .height) lag i) ≤ 2 ^ 53)
-        → (squares : Float) → squares ≡ ofScaled 4 (tapSquare (quarters l) (plane .width) (plane .height) lag)
-        → (r : List A) → r ≡ exactFit R entries taps squares lag (factors lag) → r ≡ chromaFit R l plane lag
+  module _ (size : length (plane .source) ≡ plane .width * plane .height) (wide : 2 * lag < plane .width) (high : lag < plane .height) where
+    -- every test passed
+    pub tested : chromaFit R l plane lag ≡ coefficientsOf R (chromaSolved l plane lag)
     unfolding chromaFit
-    solved entries are taps taken small squares e r d =
-        rw (ne-eqb (length (plane .source)) 0 full, lt-leb (plane .width) (2 * lag) wide, lt-leb (plane .height) lag high)
-        (d ∙ chroma-exact plane lag S entries are l L T R taps squares taken small e)
+    tested = rw (ne-eqb (length (plane .source)) 0 full, lt-leb (plane .width) (2 * lag) wide, lt-leb (plane .height) lag high)
       where
         columns : 0 < plane .width
         columns = omega arith
@@ -74,6 +69,14 @@ module _ {A : Type 0} (R : Reading A) (l : Luma) (plane : Pair) (lag : ℕ) wher
 
         full : length (plane .source) ≡ 0 → ⊥
         full z = let p : 0 < plane .width * plane .height = mul-pos columns rows in omega (arith, size)
+
+    solved : Limited planeLimit sampleLimit (own plane) → Limited planeLimit sampleLimit (average l) → InFit plane lag (average l)
+        → (entries : ℕ → ℕ → ℤ) → ((i j : ℕ) → i < factors lag → j < factors lag → entries i j ≡ entry (noiseOf plane) (plane .width) (plane .height) lag i j)
+        → (taps : ℕ → ℤ) → ((i : ℕ) → i < factors lag → taps i ≡ tapEntry (noiseOf plane) (quarters l) (plane .width) (plane .height) lag i)
+        → ((i : ℕ) → i < factors lag → natAbs (tapEntry (noiseOf plane) (quarters l) (plane .width) (plane .height) lag i) ≤ 2 ^ 53)
+        → (squares : Float) → squares ≡ ofScaled 4 (tapSquare (quarters l) (plane .width) (plane .height) lag)
+        → (r : List A) → r ≡ exactFit R entries taps squares lag (factors lag) → r ≡ chromaFit R l plane lag
+    solved S L T entries are taps taken small squares e r d = d ∙ chroma-exact plane lag S entries are l L T R taps squares taken small e ∙ sym tested
 
 -- ---- a component of what a geometry shows, from its exact sums
 module _ {g : Geometry} (O : Over g) {y y-denoised source denoised : List ℕ} (L : Seen (g .luma) y y-denoised) (S : Seen (g .chroma) source denoised)

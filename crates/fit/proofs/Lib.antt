@@ -1,5 +1,6 @@
 pub mod Cells
 pub mod Zeros
+pub mod Places
 pub mod Near
 pub mod FloatEntries
 pub mod Solutions

@@ -1,5 +1,5 @@
 -- The luma fit, from the tests that its code makes. Assumes nothing.
-use mathlib.Core.Path.{_≡_, ap, _∙_}
+use mathlib.Core.Path.{_≡_, sym, ap, _∙_}
 use mathlib.Core.Bool.{true, false}
 use mathlib.Core.List.{List}
 use Prim.Native.Nat.{ℕ, _*_, _≤_, _<_}
@@ -20,7 +20,8 @@ use Rattle.positions.specs.Counts.{neighbours, factors}
 use Rattle.normal.specs.Normal.{entry}
 use Rattle.normal.specs.Layout.{sumAt}
 use Rattle.normal.specs.Calls.{NeighbourSums}
-use Rattle.fit.specs.Steps.{zeros, energyF, lumaFit}
+use Rattle.fit.specs.Steps.{zeros, coefficientsOf, energyF, lumaFit}
+use Rattle.fit.specs.Words.{lumaSolved}
 use Rattle.fit.specs.Sums.{exactFit}
 use Rattle.fit.proofs.ExactFit.{energy-exact, luma-exact}
 
@@ -44,14 +45,17 @@ module _ {A : Type 0} (R : Reading A) (plane : Pair) (lag : ℕ) where
         unfolding lumaFit
         flat t = rw (ne-eqb lag 0 some, lt-leb (plane .width) (2 * lag) wide, lt-leb (plane .height) lag high, ← energy, t)
 
+        -- every test passed
+        pub tested : le x plusZero ≡ false → lumaFit R plane lag ≡ coefficientsOf R (lumaSolved plane lag)
+        unfolding lumaFit
+        tested t = rw (ne-eqb lag 0 some, lt-leb (plane .width) (2 * lag) wide, lt-leb (plane .height) lag high, ← energy, t)
+
         pub solved : le x plusZero ≡ false → Limited planeLimit sampleLimit (own plane)
             → (entries : ℕ → ℕ → ℤ) → ((i j : ℕ) → i < factors lag → j < factors lag → entries i j ≡ entry (noiseOf plane) (plane .width) (plane .height) lag i j)
             → (taps : ℕ → ℤ) (squares : Float) (p : ℕ) → p ≡ neighbours lag → (r : List A) → r ≡ exactFit R entries taps squares lag p
             → r ≡ lumaFit R plane lag
-        unfolding lumaFit
         solved t S entries are taps squares p e r d =
-            rw (ne-eqb lag 0 some, lt-leb (plane .width) (2 * lag) wide, lt-leb (plane .height) lag high, ← energy, t)
-            (d ∙ ap (exactFit R entries taps squares lag) e ∙ luma-exact plane lag S entries are R taps squares)
+            d ∙ ap (exactFit R entries taps squares lag) e ∙ luma-exact plane lag S entries are R taps squares ∙ sym (tested t)
 
 -- the energy, read from the sums
 pub energy-read : (plane : Pair) (lag : ℕ) → Limited planeLimit sampleLimit (own plane) → (sums : List ℤ) → NeighbourSums plane lag sums → (n : ℕ) → n ≡ neighbours lag

@@ -8,14 +8,12 @@ use native.Mathlib.Nat.{le-of-lt, le-trans, lt-of-lt-of-le, le-of-suc-le-suc, eq
 use native.Mathlib.Omega.{arith}
 use lib.Dec.{eqb, leb, lit≤}
 use lib.IntN.{ℤ, pos, natAbs}
-use lib.ListN.{getD, getD-replicate}
+use lib.ListN.{getD}
 use lib.Ieee.{le}
 use borrow.Author.Tests.{eqb-true, eqb-false, leb-true, leb-false}
 use Rattle.laws.specs.Limits.{planeLimit, sampleLimit}
 use Rattle.laws.specs.Scaled.{plusZero}
-use Rattle.laws.proofs.Table.{getD-tabulate}
 use Rattle.float.specs.Reading.{coefficients}
-use Rattle.float.specs.Steps.{quantAr}
 use Rattle.frame.specs.Calls.{fitRefusal}
 use Rattle.frame.specs.Planes.{viewOf}
 use Rattle.frame.specs.declared.view.Component.the-variants.{Y}
@@ -31,12 +29,12 @@ use Rattle.positions.specs.Counts.{neighbours}
 use Rattle.positions.proofs.Counts.{neighbours-le}
 use Rattle.normal.specs.Normal.{entry}
 use Rattle.normal.proofs.Bounds.{entry-bound}
-use Rattle.solve.specs.Elimination.{value}
 use Rattle.solve.specs.declared.Solved.{Solved}
 use Rattle.fit.specs.Steps.{zeros, quantised, coefficientsOf, energyF, lumaFit}
 use Rattle.fit.specs.Answer.{allZero, firstOf, unfit, fitOf, lumaOf, planeOf, fitAnswer}
 use Rattle.fit.specs.declared.Fit.{Fit}
 use Rattle.fit.specs.Words.{lumaSolved, NoFit, lagZero, narrow, short, still, unsolved, white}
+use Rattle.fit.proofs.Places.{zeros-at, quantised-at, first-at}
 use Rattle.fit.proofs.Zeros.{no-size}
 use Rattle.fit.proofs.Energy.{still-flat, flat-still}
 use Rattle.fit.proofs.Answers.{accepted-is}
@@ -57,18 +55,6 @@ unfolding allZero
 all-zero x zero h = refl
 all-zero x (suc n) h = rw (all-zero x n (λ i l. h i (le-trans l (le-suc n))), h n (le-refl (suc n)))
 
--- the coefficients in use
-first-at : (x : List ℤ) (i : ℕ) → i < 24 → getD (firstOf coefficients x) i (pos 0) ≡ getD x i (pos 0)
-unfolding firstOf
-first-at x i l = getD-tabulate 24 (λ i. getD x i (pos 0)) i (pos 0) l
-
-zeros-at : (i : ℕ) → i < 24 → getD (zeros coefficients) i (pos 0) ≡ pos 0
-zeros-at i l = getD-replicate 25 i (pos 0) (pos 0) (omega arith)
-
-quantised-at : (r : Solved) (i : ℕ) → i < 24 → getD (quantised coefficients (r .solution .values)) i (pos 0) ≡ quantAr (value (r .solution .values) i)
-unfolding quantised
-quantised-at r i l = getD-tabulate 25 (λ i. quantAr (value (r .solution .values) i)) i (pos 0) (omega arith)
-
 module _ (plane : Pair) (lag : ℕ) (few : lag ≤ 3) (S : Limited planeLimit sampleLimit (own plane))
     (bound : 2 * lag < plane .width → lag < plane .height → natAbs (entry (noiseOf plane) (plane .width) (plane .height) lag (neighbours lag) (neighbours lag)) ≤ 2 ^ 53) where
   abbrev w : ℕ
@@ -83,11 +69,11 @@ module _ (plane : Pair) (lag : ℕ) (few : lag ≤ 3) (S : Limited planeLimit sa
   abbrev Zero : List ℤ → Type 0
   Zero x = (i : ℕ) → i < neighbours lag → getD x i (pos 0) ≡ pos 0
 
-  used : (i : ℕ) → i < neighbours lag → i < 24
-  used i l = lt-of-lt-of-le l (neighbours-le few)
+  below : (i : ℕ) → i < neighbours lag → i < 25
+  below i l = let k : i < 24 = lt-of-lt-of-le l (neighbours-le few) in omega arith
 
   zeros-zero : Zero (zeros coefficients)
-  zeros-zero i l = zeros-at i (used i l)
+  zeros-zero i l = zeros-at coefficients i (below i l)
 
   -- the tests of the definition
   abbrev tested : Bool → Bool → Bool → Bool → Bool → List ℤ
@@ -105,7 +91,7 @@ module _ (plane : Pair) (lag : ℕ) (few : lag ≤ 3) (S : Limited planeLimit sa
   case false false false true e p q s t u z =
       still (flat-still plane lag S (bound (leb-false w (2 * lag) q) (leb-false h lag s)) t)
   case false false false false false p q s t u z = unsolved u
-  case false false false false true p q s t u z = white (λ i l. sym (quantised-at r i (used i l)) ∙ z i l)
+  case false false false false true p q s t u z = white (λ i l. sym (quantised-at coefficients (r .solution .values) i (below i l)) ∙ z i l)
 
   pub is-case : Zero (lumaFit coefficients plane lag) → NoFit plane lag
   is-case z = case _ _ _ _ _ refl refl refl refl refl (λ i l. sym (ap (λ (x : List ℤ). getD x i (pos 0)) is-tested) ∙ z i l)
@@ -123,7 +109,7 @@ module _ (plane : Pair) (lag : ℕ) (few : lag ≤ 3) (S : Limited planeLimit sa
   leaves false false false false true p q s t u (short z) = absurd (omega (arith, leb-false h lag s))
   leaves false false false false true p q s t u (still z) = absurd (true≢false (sym (still-flat plane lag S z) ∙ t))
   leaves false false false false true p q s t u (unsolved z) = absurd (true≢false (sym u ∙ z))
-  leaves false false false false true p q s t u (white z) = λ i l. quantised-at r i (used i l) ∙ z i l
+  leaves false false false false true p q s t u (white z) = λ i l. quantised-at coefficients (r .solution .values) i (below i l) ∙ z i l
 
   pub case-is : NoFit plane lag → Zero (lumaFit coefficients plane lag)
   case-is n i l = ap (λ (x : List ℤ). getD x i (pos 0)) is-tested ∙ leaves _ _ _ _ _ refl refl refl refl refl n i l
@@ -158,12 +144,12 @@ module _ (s : Shape) (y cb cr y-denoised cb-denoised cr-denoised : List ℕ) (la
       let x = lumaFit coefficients plane lag in
       let t : allZero (firstOf coefficients x) (neighbours lag) ≡ true = picked _ _ refl (sym (λ i. is-fit i .found) ∙ e) in
       is-case plane lag (facts .lag-known) limited bounded
-      (λ i l. sym (first-at x i (lt-of-lt-of-le l (neighbours-le (facts .lag-known)))) ∙ each-zero (firstOf coefficients x) (neighbours lag) t i l)
+      (λ i l. sym (first-at coefficients x i (lt-of-lt-of-le l (neighbours-le (facts .lag-known)))) ∙ each-zero (firstOf coefficients x) (neighbours lag) t i l)
 
   pub no-fit-if : NoFit plane lag → fitAnswer s y cb cr y-denoised cb-denoised cr-denoised lag ≡ unfit 0
   unfolding fitOf
   no-fit-if n = is-fit ∙ rw all
     where
       all : allZero (firstOf coefficients (lumaFit coefficients plane lag)) (neighbours lag) ≡ true
-      all = all-zero _ (neighbours lag) (λ i l. first-at (lumaFit coefficients plane lag) i (lt-of-lt-of-le l (neighbours-le (facts .lag-known)))
+      all = all-zero _ (neighbours lag) (λ i l. first-at coefficients (lumaFit coefficients plane lag) i (lt-of-lt-of-le l (neighbours-le (facts .lag-known)))
           ∙ case-is plane lag (facts .lag-known) limited bounded n i l)

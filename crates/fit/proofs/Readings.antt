@@ -16,11 +16,12 @@ use Rattle.float.proofs.Reading.{part}
 use Rattle.float.specs.declared.quant.Quantised.{Quantised}
 use Rattle.noise.specs.Average.{Luma}
 use Rattle.noise.specs.Noise.{Pair}
-use Rattle.solve.specs.Elimination.{Row, value}
+use Rattle.solve.specs.Elimination.{Row}
 use Rattle.fit.specs.Steps.{zeros, quantised, coefficientsOf, tooSmall, energyF, lumaFit, chromaFit}
 use Rattle.fit.specs.Answer.{firstOf}
 use Rattle.fit.specs.Apart.{Apart}
 use Rattle.fit.specs.Words.{lumaSolved, chromaSolved}
+use Rattle.fit.proofs.Places.{quantised-at}
 
 -- y is what f tells of the 25 of x
 record Told {A B : Type 0} (R : Reading A) (f : A → B) (x : List A) (y : List B) : Type 0 where
@@ -35,7 +36,7 @@ module _ {A B : Type 0} (R : Reading A) (f : A → B) where
 
   quantised-told : (x : Row) → Told R f (quantised R x) (quantised S x)
   unfolding quantised
-  quantised-told x = record { whole = tabulate-same 25 _ _ (λ i l. ap f (getD-tabulate 25 (λ k. R .of (value x k)) i (R .unquantised) l)) }
+  quantised-told x = record { whole = tabulate-same 25 _ _ (λ i l. ap f (quantised-at R x i l)) }
 
   either : (b : Bool) {x x′ : List A} {y y′ : List B} → Told R f x y → Told R f x′ y′ → Told R f (cond b x x′) (cond b y y′)
   either true p q = p

@@ -6,9 +6,8 @@ use Prim.Native.Nat.{ℕ, _≤_}
 use native.Mathlib.Nat.{lt-of-lt-of-le}
 use native.Mathlib.Omega.{arith}
 use lib.Dec.{lit≤}
-use lib.ListN.{getD, replicate, getD-replicate}
+use lib.ListN.{replicate, getD-replicate}
 use Rattle.laws.specs.Scaled.{plusZero}
-use Rattle.laws.proofs.Table.{getD-tabulate}
 use Rattle.float.specs.Reading.{Reading, coefficients, marks}
 use Rattle.float.proofs.Reading.{zero-coefficient, zero-mark}
 use Rattle.frame.specs.Calls.{orderRefusal}
@@ -17,19 +16,19 @@ use Rattle.noise.specs.Average.{Luma}
 use Rattle.noise.specs.Noise.{Pair}
 use Rattle.noise.specs.Products.{Factor}
 use Rattle.positions.specs.Counts.{neighbours, factors}
-use Rattle.solve.specs.Elimination.{value}
 use Rattle.solve.specs.declared.Solved.{Solved}
 use Rattle.solve.specs.Words.{Whole}
 use Rattle.solve.proofs.Values.{solved-whole}
 use Rattle.fit.specs.Steps.{neighbourOf, withTap, zeros, quantised, solvedFit, coefficientsOf, lumaFit, chromaFit}
-use Rattle.fit.specs.Answer.{firstOf, lumaFirst, lumaOf, planeOf, fitAnswer}
+use Rattle.fit.specs.Answer.{lumaFirst, lumaOf, planeOf, fitAnswer}
 use Rattle.fit.specs.Words.{ZeroFrom, UnusedZero}
+use Rattle.fit.proofs.Places.{zeros-at, quantised-at, first-at}
 use Rattle.fit.proofs.EachFit.{luma-case, chroma-case, answer-case}
 
 -- by a reading to which plus zero is as if it were not quantised
 module _ {A : Type 0} (R : Reading A) (zero : R .of plusZero ≡ R .unquantised) where
   zeros-zero : (p m : ℕ) → m ≤ 25 → ZeroFrom R p m (zeros R)
-  zeros-zero p m h i a b = getD-replicate 25 i (R .unquantised) (R .unquantised) (lt-of-lt-of-le b h)
+  zeros-zero p m h i a b = zeros-at R i (lt-of-lt-of-le b h)
 
   solved-unused : (plane : Pair) (lag : ℕ) (row : ℕ → Factor) (p : ℕ) → ZeroFrom R p 25 (coefficientsOf R (solvedFit plane lag row p))
   unfolding solvedFit coefficientsOf quantised
@@ -45,13 +44,12 @@ module _ {A : Type 0} (R : Reading A) (zero : R .of plusZero ≡ R .unquantised)
       go false e i a b = zeros-zero p 25 (lit≤ tt) i a b
       go true e i a b =
           let o : r .solution .order ≤ i = rw (W .counted e) a in
-          getD-tabulate 25 (λ k. R .of (value (r .solution .values) k)) i (R .unquantised) b ∙ ap (R .of) (W .padded .unused i o b) ∙ zero
+          quantised-at R (r .solution .values) i b ∙ ap (R .of) (W .padded .unused i o b) ∙ zero
 
   -- luma of a fit, and either chroma plane
   luma-unused : (luma : Luma) (lag : ℕ) → ZeroFrom R (neighbours lag) 24 (lumaFirst R luma lag)
-  unfolding firstOf
   luma-unused luma lag i a b =
-      getD-tabulate 24 (λ k. getD (lumaFit R (luma .plane) lag) k (R .unquantised)) i (R .unquantised) b
+      first-at R (lumaFit R (luma .plane) lag) i b
       ∙ luma-case R (ZeroFrom R (neighbours lag) 25) (zeros-zero (neighbours lag) 25 (lit≤ tt)) (luma .plane) lag (solved-unused (luma .plane) lag (neighbourOf (luma .plane) lag) (neighbours lag)) i a (omega arith)
 
   chroma-unused : (luma : Luma) (plane : Pair) (lag : ℕ) → ZeroFrom R (factors lag) 25 (chromaFit R luma plane lag)

@@ -5,6 +5,7 @@ mod Units
 mod Times
 mod Cut
 mod Fractions
+pub mod Number
 pub mod NearestWhole
 pub mod WholeRoot
 pub mod NearestRoot

@@ -1,13 +1,16 @@
--- The coefficient is the rounded value exactly where the mark is inside (`inside-exactly`). Assumes nothing.
+-- The coefficient is the rounded value exactly where the mark is inside (`inside-exactly`), and no number is marked NaN (`number-marked`). Assumes nothing.
 use mathlib.Core.Path.{_≡_, refl, sym, ap, _∙_}
-use mathlib.Core.Bool.{Bool, true, false, cond}
+use Prim.Native.Nat.{_*_}
+use native.Mathlib.Omega.{arith}
+use mathlib.Core.Bool.{Bool, true, false, cond, true≢false}
 use lib.IntN.{ℤ, pos, negℤ}
 use lib.Dec.{T}
 use lib.Signed.{ltZ}
-use lib.Ieee.{Float, binary64, fits}
+use lib.Ieee.{Float, nan, inf, fin, binary64, up, down, fits, isNan}
 use Rattle.float.specs.Clamp.{clampOf}
 use Rattle.float.specs.Coefficient.{Times64, noNumber, below, above, nearest, times64, held, coefficient}
-use Rattle.float.specs.Mark.{inside, heldLow, heldHigh, markOf, mark, InsideExactly}
+use Rattle.float.specs.Mark.{inside, heldLow, heldHigh, notANumber, markOf, mark, number, InsideExactly}
+use Rattle.float.specs.Round.{halfUp}
 use Rattle.float.proofs.Coefficient.{quant-is-coefficient}
 
 module _ (z : ℤ) where
@@ -49,3 +52,19 @@ inside-exactly c t =
       rounded = λ e. unheld (times64 c) e ∙ ap nearest (sym q);
       unheld = λ e. stays-inside (times64 c) (e ∙ ap nearest q);
     }
+
+-- what is not NaN is not marked so
+held-number : (a b : Bool) → number (cond a heldLow (cond b heldHigh inside)) ≡ number notANumber → ⊥
+held-number true b e = omega arith
+held-number false true e = omega arith
+held-number false false e = omega arith
+
+pub number-marked : (x : Float) → isNan x ≡ false → number (mark x) ≡ number notANumber → ⊥
+unfolding isNan mark
+number-marked nan n e = true≢false n
+number-marked (inf true) n e = omega arith
+number-marked (inf false) n e = omega arith
+number-marked (fin s m d) n e =
+    let k = halfUp (64 * (m * up d)) (down d) in
+    let z = cond s (negℤ (pos k)) (pos k) in
+    held-number (ltZ z (negℤ (pos 128))) (ltZ (pos 127) z) e
