@@ -4,3 +4,4 @@ pub mod frames; // denoise, profile and chroma correlation of a frame
 pub mod gates; // row correlation and gates
 pub mod fits; // quantiser, solver and fit
 pub mod draws; // seed and random register
+pub mod headers; // a frame header's grain part

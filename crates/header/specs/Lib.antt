@@ -1,0 +1,14 @@
+-- the syntax, and what a call leaves
+pub mod Record
+pub mod Row
+pub mod Text
+pub mod Bits
+pub mod Reset
+pub mod Size
+pub mod Calls
+-- what only contracts of the parts use
+pub mod Held
+-- what theorems say
+pub mod Fits
+pub mod Allowed
+pub mod Semantics
