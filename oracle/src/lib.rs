@@ -31,3 +31,4 @@ pub mod values;
 pub use encoder::film_grain_elect::reach;
 pub use encoder::yuv_frame::{ChromaFormat, YuvFrame};
 pub use film_grain::RandomRegister;
+pub use uncompressed_header_tail::{FilmGrainContext, FilmGrainParams, parse_film_grain_params};

@@ -1,4 +1,7 @@
-//! What the published files name and the published part lacks. No ported function runs any of it.
+//! What the published files name and the published part lacks.
+//!
+//! `BitReader`'s `f` and `position` are run, by the Rust's reader of `film_grain_params`, and so are the errors that the
+//! two answer. The rest is there to compile: no ported function runs it, and what has no body would end the program.
 #[derive(Debug, Clone, PartialEq, Eq)]
 pub enum Error {
     UnexpectedEnd,
@@ -8,21 +11,34 @@ pub enum Error {
 
 pub mod bitreader {
     use super::Error;
-    use std::marker::PhantomData;
 
     pub struct BitReader<'a> {
-        data: PhantomData<&'a [u8]>,
+        data: &'a [u8],
+        /// In bits.
+        position: usize,
     }
 
     impl<'a> BitReader<'a> {
-        pub fn new(_data: &'a [u8]) -> Self {
-            Self { data: PhantomData }
+        pub fn new(data: &'a [u8]) -> Self {
+            Self { data, position: 0 }
         }
         pub fn position(&self) -> usize {
-            unimplemented!()
+            self.position
         }
-        pub fn f(&mut self, _n: u32) -> Result<u64, Error> {
-            unimplemented!()
+        /// The specification's f(n), bit by bit, the highest first.
+        pub fn f(&mut self, n: u32) -> Result<u64, Error> {
+            let mut x = 0;
+            for _ in 0..n {
+                x = 2 * x + self.read_bit()?;
+            }
+            Ok(x)
+        }
+        fn read_bit(&mut self) -> Result<u64, Error> {
+            let byte = self.data.get(self.position / 8);
+            let byte = byte.ok_or(Error::UnexpectedEnd)?;
+            let bit = byte >> (7 - self.position % 8) & 1;
+            self.position += 1;
+            Ok(bit.into())
         }
         pub fn su(&mut self, _n: u32) -> Result<i32, Error> {
             unimplemented!()
