@@ -1,4 +1,5 @@
-/* Makes every call that include/grain.h declares, on the worked cases of the scope and on refusals. */
+/* Makes every call that include/grain.h declares, on the worked cases of the scope and on refusals; that of the header
+ * is made in headers.c. */
 #include "check.h"
 
 #include <math.h>

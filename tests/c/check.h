@@ -1,12 +1,15 @@
-/* What the tests have in common: comparisons that are counted, and planes. A comparison that fails is written with its
- * line; a program's last line is 'NAME: N compared, M differ', and its status is 0 if M is. */
+/* What the tests have in common: comparisons that are counted, the edge of memory, and planes. A comparison that fails is
+ * written with its line; a program's last line is 'NAME: N compared, M differ', and its status is 0 if M is. */
 #ifndef CHECK_H
 #define CHECK_H
 
 #include "grain.h"
 
 #include <stdio.h>
+#include <stdlib.h>
 #include <string.h>
+#include <sys/mman.h>
+#include <unistd.h>
 
 /* ---- Comparisons ---- */
 
@@ -40,6 +43,18 @@ static const char zeros[1024];
         compare(__LINE__, #got " = " #__VA_ARGS__, got, w_, sizeof w_); \
     } while (0)
 #define ZERO(field) compare(__LINE__, #field " = 0", &(field), zeros, sizeof(field))
+
+/* ---- The edge of memory ---- */
+
+/* n bytes of which the last is the last before memory that can't be touched, or the first the first behind it. */
+static inline void *edge(size_t n, bool first)
+{
+    size_t page = (size_t)sysconf(_SC_PAGESIZE), room = (n + page - 1) / page * page;
+    char *at = mmap(NULL, room + 2 * page, PROT_NONE, MAP_PRIVATE | MAP_ANONYMOUS, -1, 0);
+    if (at == MAP_FAILED || mprotect(at + page, room, PROT_READ | PROT_WRITE) != 0)
+        abort();
+    return first ? at + page : at + page + room - n;
+}
 
 /* ---- Planes ---- */
 

@@ -3,18 +3,9 @@
 #include "check.h"
 #include "grain_planes.h"
 
-#include <stdlib.h>
-#include <sys/mman.h>
-#include <unistd.h>
-
-/* n samples of which the last is the last before memory that can't be touched, or the first the first behind it. */
 static uint16_t *plane(size_t n, bool first)
 {
-    size_t page = (size_t)sysconf(_SC_PAGESIZE), room = (2 * n + page - 1) / page * page;
-    char *at = mmap(NULL, room + 2 * page, PROT_NONE, MAP_PRIVATE | MAP_ANONYMOUS, -1, 0);
-    if (at == MAP_FAILED || mprotect(at + page, room, PROT_READ | PROT_WRITE) != 0)
-        abort();
-    return first ? (uint16_t *)(at + page) : (uint16_t *)(at + page + room) - n;
+    return edge(n * sizeof(uint16_t), first);
 }
 
 /* Samples about this level, of 10 bits. */

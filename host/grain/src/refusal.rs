@@ -86,6 +86,10 @@ refusals! {
         "the order must be 1 to 25"
     RegisterBits 9 "Is the register asked for at most 16 bits?"
         "the register gives at most 16 bits at once"
+    HeaderField 10 "Is every field of a header's record as the syntax and its semantics let it be?"
+        "every field of the record must keep its limits, fit its bits, and be as after a reset where the syntax skips it"
+    HeaderRoom 11 "Has the destination a byte for every eight bits begun?"
+        "the destination must have a byte for every eight bits begun, 154 at most"
 }
 
 impl Error for Refusal {}

@@ -78,8 +78,12 @@ fn marks() {
 }
 
 #[test]
-fn limit_and_version() {
+fn limits_and_version() {
     assert_eq!(defined("GRAIN_MAX_SIDE"), SIDE_LIMIT.to_string());
+    assert_eq!(
+        defined("GRAIN_MAX_HEADER_BYTES"),
+        MAX_HEADER_BYTES.to_string()
+    );
     let version = ["MAJOR", "MINOR", "PATCH"].map(|part| defined(&format!("GRAIN_VERSION_{part}")));
     assert_eq!(version.join("."), env!("CARGO_PKG_VERSION"));
 }

@@ -20,6 +20,9 @@ fn sizes() {
     assert_eq!(size_of::<Random>(), 2);
     assert_eq!(size_of::<Draw>(), 8);
     assert_eq!(size_of::<Stepped>(), 12);
+    assert_eq!(size_of::<FilmGrainParams>(), 168);
+    assert_eq!(size_of::<FilmGrainFields>(), 24);
+    assert_eq!(size_of::<Written>(), 16);
 }
 
 #[test]
@@ -42,4 +45,63 @@ fn places() {
     assert_eq!(offset_of!(Fit, cb_marks), 336);
     assert_eq!(offset_of!(Fit, cr_marks), 361);
     assert_eq!(offset_of!(Stepped, after), 8);
+    assert_eq!(offset_of!(Written, bits), 8);
+}
+
+#[test]
+fn places_of_a_header() {
+    assert_eq!(offset_of!(FilmGrainParams, apply_grain), 0);
+    assert_eq!(offset_of!(FilmGrainParams, grain_seed), 2);
+    assert_eq!(offset_of!(FilmGrainParams, update_grain), 4);
+    assert_eq!(offset_of!(FilmGrainParams, film_grain_params_ref_idx), 5);
+    assert_eq!(offset_of!(FilmGrainParams, num_y_points), 6);
+    assert_eq!(offset_of!(FilmGrainParams, point_y_value), 7);
+    assert_eq!(offset_of!(FilmGrainParams, point_y_scaling), 21);
+    assert_eq!(offset_of!(FilmGrainParams, chroma_scaling_from_luma), 35);
+    assert_eq!(offset_of!(FilmGrainParams, num_cb_points), 36);
+    assert_eq!(offset_of!(FilmGrainParams, point_cb_value), 37);
+    assert_eq!(offset_of!(FilmGrainParams, point_cb_scaling), 47);
+    assert_eq!(offset_of!(FilmGrainParams, num_cr_points), 57);
+    assert_eq!(offset_of!(FilmGrainParams, point_cr_value), 58);
+    assert_eq!(offset_of!(FilmGrainParams, point_cr_scaling), 68);
+    assert_eq!(offset_of!(FilmGrainParams, grain_scaling), 78);
+    assert_eq!(offset_of!(FilmGrainParams, ar_coeff_lag), 79);
+    assert_eq!(offset_of!(FilmGrainParams, ar_coeffs_y_plus_128), 80);
+    assert_eq!(offset_of!(FilmGrainParams, ar_coeffs_cb_plus_128), 104);
+    assert_eq!(offset_of!(FilmGrainParams, ar_coeffs_cr_plus_128), 129);
+    assert_eq!(offset_of!(FilmGrainParams, ar_coeff_shift), 154);
+    assert_eq!(offset_of!(FilmGrainParams, grain_scale_shift), 155);
+    assert_eq!(offset_of!(FilmGrainParams, cb_mult), 156);
+    assert_eq!(offset_of!(FilmGrainParams, cb_luma_mult), 157);
+    assert_eq!(offset_of!(FilmGrainParams, cb_offset), 158);
+    assert_eq!(offset_of!(FilmGrainParams, cr_mult), 160);
+    assert_eq!(offset_of!(FilmGrainParams, cr_luma_mult), 161);
+    assert_eq!(offset_of!(FilmGrainParams, cr_offset), 162);
+    assert_eq!(offset_of!(FilmGrainParams, overlap_flag), 164);
+    assert_eq!(offset_of!(FilmGrainParams, clip_to_restricted_range), 165);
+    assert_eq!(offset_of!(FilmGrainParams, predicted), 166);
+}
+
+#[test]
+fn places_of_a_headers_fields() {
+    assert_eq!(offset_of!(FilmGrainFields, apply_grain), 0);
+    assert_eq!(offset_of!(FilmGrainFields, grain_seed), 2);
+    assert_eq!(offset_of!(FilmGrainFields, update_grain), 4);
+    assert_eq!(offset_of!(FilmGrainFields, film_grain_params_ref_idx), 5);
+    assert_eq!(offset_of!(FilmGrainFields, num_y_points), 6);
+    assert_eq!(offset_of!(FilmGrainFields, chroma_scaling_from_luma), 7);
+    assert_eq!(offset_of!(FilmGrainFields, num_cb_points), 8);
+    assert_eq!(offset_of!(FilmGrainFields, num_cr_points), 9);
+    assert_eq!(offset_of!(FilmGrainFields, grain_scaling), 10);
+    assert_eq!(offset_of!(FilmGrainFields, ar_coeff_lag), 11);
+    assert_eq!(offset_of!(FilmGrainFields, ar_coeff_shift), 12);
+    assert_eq!(offset_of!(FilmGrainFields, grain_scale_shift), 13);
+    assert_eq!(offset_of!(FilmGrainFields, cb_mult), 14);
+    assert_eq!(offset_of!(FilmGrainFields, cb_luma_mult), 15);
+    assert_eq!(offset_of!(FilmGrainFields, cb_offset), 16);
+    assert_eq!(offset_of!(FilmGrainFields, cr_mult), 18);
+    assert_eq!(offset_of!(FilmGrainFields, cr_luma_mult), 19);
+    assert_eq!(offset_of!(FilmGrainFields, cr_offset), 20);
+    assert_eq!(offset_of!(FilmGrainFields, overlap_flag), 22);
+    assert_eq!(offset_of!(FilmGrainFields, clip_to_restricted_range), 23);
 }

@@ -97,6 +97,61 @@ fn lag_order_and_bits() {
     assert_eq!(register.next(16), Ok(32768));
 }
 
+/// Writes a header of an inter frame in 4:2:0 to so many bytes; what they hold afterwards stands beside the answer.
+fn written(params: &FilmGrainParams, room: usize) -> (Result<usize, Refusal>, Vec<u8>) {
+    let mut dst = vec![7; room];
+    let answer = write_film_grain_params(params, FrameType::Inter, Format::Yuv420, &mut dst);
+    (answer, dst)
+}
+
+#[test]
+fn a_header_and_its_room() {
+    let none = FilmGrainParams::reset();
+    assert_eq!(written(&none, 2), (Ok(1), vec![0, 7]));
+    assert_eq!(written(&none, 0), (Err(Refusal::HeaderRoom), vec![]));
+
+    let seeded = FilmGrainParams {
+        grain_seed: 1,
+        ..none
+    };
+    for room in [0, MAX_HEADER_BYTES] {
+        let refused = (Err(Refusal::HeaderField), vec![7; room]);
+        assert_eq!(written(&seeded, room), refused);
+    }
+    let slot = FilmGrainParams {
+        apply_grain: true,
+        film_grain_params_ref_idx: 7,
+        ..none
+    };
+    assert_eq!(written(&slot, 3), (Ok(21), vec![0x80, 0, 0x38]));
+    assert_eq!(written(&slot, 2), (Err(Refusal::HeaderRoom), vec![7; 2]));
+    let mut dst = [7; 3];
+    let other = write_film_grain_params(&slot, FrameType::Other, Format::Yuv420, &mut dst);
+    assert_eq!((other, dst), (Err(Refusal::HeaderField), [7; 3]));
+}
+
+/// A count is refused before anything is taken from its list.
+#[test]
+fn a_count_above_its_limit() {
+    let updated = FilmGrainParams {
+        apply_grain: true,
+        update_grain: true,
+        grain_scaling: 8,
+        ar_coeff_shift: 6,
+        ..FilmGrainParams::reset()
+    };
+    assert_eq!(written(&updated, 5).0, Ok(33));
+    for count in [15, 200, 255] {
+        let many = FilmGrainParams {
+            num_y_points: count,
+            point_y_value: std::array::from_fn(|i| i as u8),
+            ..updated
+        };
+        let refused = (Err(Refusal::HeaderField), vec![7; MAX_HEADER_BYTES]);
+        assert_eq!(written(&many, MAX_HEADER_BYTES), refused);
+    }
+}
+
 fn of_number(number: u32) -> Refusal {
     NonZeroU32::new(number).expect("a refusal's number").into()
 }
