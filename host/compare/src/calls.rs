@@ -3,6 +3,8 @@
 //! An answer is a list of words: whole numbers as they are, floats by their bits, what may be missing behind a 1 or a 0.
 
 use crate::branches::{self, Branches};
+use crate::headers::rules::{self, Rule};
+use crate::headers::{self, Header};
 use crate::input::{Input, Plane, Planes};
 use crate::questions::Asks;
 use crate::random::Random;
@@ -31,8 +33,12 @@ pub struct Call {
     pub lent: &'static [Plane],
     /// How many planes it writes. A call that writes none answers with words.
     pub destinations: usize,
-    /// Its lag, order, bits, sigma16 or hint.
+    /// Its lag, order, bits, sigma16 or hint, or how many faults its header is drawn with.
     pub number: fn(&mut Random) -> u64,
+    /// The header that it writes, of a format and with so many faults.
+    pub header: fn(&mut Random, u8, u64) -> Header,
+    /// The rules that a run has to meet broken, each by a record that breaks no other.
+    pub rules: &'static [&'static [Rule]],
     /// How many of a run's cases are its own, in proportion.
     pub share: usize,
     /// What the answer carries and the Rust keeps inside, worked out plainly.
@@ -60,10 +66,19 @@ impl Call {
             lent: &[],
             destinations: 0,
             number: |_| 0,
+            header: |_, _, _| Header::default(),
+            rules: &[],
             share: 1,
             added: |_| Words::new(),
             timed: &[(0, None)],
         }
+    }
+
+    /// What a run has to meet, by name.
+    pub fn names(&self) -> impl Iterator<Item = &'static str> {
+        let rules = self.rules.iter().copied().flatten();
+        let branches = self.branches.all.iter().copied();
+        branches.chain(rules.map(|rule| rule.name))
     }
 }
 
@@ -107,10 +122,16 @@ const SIZE_AND_DEPTH: Asks = Asks {
 };
 const SHAPE: Asks = Asks {
     frame: true,
+    format: true,
     ..SIZE_AND_DEPTH
 };
 const ORDER: Asks = Asks {
     order: true,
+    ..Asks::NOTHING
+};
+const HEADER: Asks = Asks {
+    format: true,
+    header: true,
     ..Asks::NOTHING
 };
 
@@ -350,6 +371,37 @@ pub const CALLS: &[Call] = &[
             raw::register_next,
             rust::register_next,
             branches::REGISTER,
+        )
+    },
+    Call {
+        asks: HEADER,
+        number: |random| random.pick(&[0, 0, 0, 1, 1, 1, 1, 2, 3]),
+        header: headers::draw::record,
+        rules: rules::ALL,
+        share: 48,
+        timed: &[],
+        ..Call::new(
+            "write_film_grain_params",
+            ours::write_film_grain_params,
+            raw::write_film_grain_params,
+            rust::write_film_grain_params,
+            branches::HEADER,
+        )
+    },
+    // Records that the Rust reads, written to the bits that it read.
+    Call {
+        asks: HEADER,
+        number: |random| random.pick(&[0, 0, 1, 2, 3]),
+        header: headers::draw::read,
+        rules: &[rules::UNREAD],
+        share: 12,
+        timed: &[],
+        ..Call::new(
+            "write_film_grain_params/read",
+            ours::write_film_grain_params,
+            raw::write_film_grain_params,
+            rust::write_film_grain_params,
+            branches::HEADER,
         )
     },
 ];

@@ -23,7 +23,7 @@ pub struct Case {
     pub depth: u8,
     pub format: u8,
     pub noise: Noise,
-    /// The lag, the order, the bits, the sigma16 or the hint, whichever the call takes.
+    /// The lag, the order, the bits, the sigma16 or the hint, whichever the call takes, or a header's number of faults.
     pub number: u64,
     pub faults: Vec<Fault>,
 }

@@ -69,8 +69,8 @@ pub fn case(seed: u64, index: u64) -> Case {
             _ => random.pick(&[8, 10, 12]),
         },
         format: match random.below(40) {
-            0 if call.asks.frame => random.pick(&[4, 5, 128, 255]),
-            _ if !call.asks.frame => 0,
+            0 if call.asks.format => random.pick(&[4, 5, 128, 255]),
+            _ if !call.asks.format => 0,
             _ => random.below(4) as u8,
         },
         noise,

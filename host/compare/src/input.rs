@@ -1,6 +1,7 @@
 //! All that a call is given, made from its case.
 
 use crate::case::{Case, Fault};
+use crate::headers::{self, Header};
 use crate::noise::{self, Noise, Size};
 use crate::random::Random;
 use crate::system::System;
@@ -14,7 +15,7 @@ pub struct Plane {
     pub component: usize,
 }
 
-/// The three planes of a destination. A register stands in the first, alone.
+/// The three planes of a destination. A register stands in the first, alone, and so do a header's bytes, one a sample.
 pub type Planes = [Vec<u16>; 3];
 
 pub struct Input {
@@ -27,6 +28,7 @@ pub struct Input {
     pub denoised: [YuvFrame; 2],
     pub destination: Planes,
     pub system: System,
+    pub header: Header,
 }
 
 /// The largest sample. 16 bits stand for a call without a depth, which takes any.
@@ -85,6 +87,7 @@ impl Input {
             denoised: [empty.clone(), empty],
             destination: Planes::default(),
             system: System::new(&mut random, case.call.asks.order),
+            header: (case.call.header)(&mut random, case.format, case.number),
         };
         input.fill(case, &mut random, size);
         for component in 0..case.call.destinations {
@@ -93,6 +96,10 @@ impl Input {
         }
         if case.call.asks.bits {
             input.destination[0] = vec![random.bits() as u16];
+        }
+        if case.call.asks.header {
+            let bytes = headers::draw::destination(&mut random, &input.header);
+            input.destination[0] = bytes.into_iter().map(u16::from).collect();
         }
         for &fault in &case.faults {
             input.spoil(case, &mut random, fault);

@@ -1,4 +1,4 @@
-//! The library beside the Rust that it ports: the same calls on the same planes, for comparison and for timing.
+//! The library beside the Rust that it ports: the same calls on the same planes and headers, to compare and to time.
 #![deny(unsafe_code)]
 
 pub mod branches;
@@ -6,6 +6,7 @@ pub mod calls;
 pub mod case;
 pub mod clock;
 pub mod draw;
+pub mod headers;
 pub mod input;
 pub mod noise;
 mod ours;

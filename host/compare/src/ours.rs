@@ -1,6 +1,7 @@
 //! The library's side of the table, by its safe functions.
 
 use crate::calls::Words;
+use crate::headers::lent_bytes;
 use crate::input::{Input, Planes};
 use crate::rust::STEPS;
 use crate::words::{coefficients, float, positions, quantised, solution, whole};
@@ -130,4 +131,12 @@ pub fn register_next(input: &Input, out: &mut Planes) -> Result<Words, Refusal> 
         .collect();
     out[0][0] = register.state;
     drawn
+}
+
+pub fn write_film_grain_params(input: &Input, out: &mut Planes) -> Result<Words, Refusal> {
+    let (header, format) = (&input.header, Format::try_from(input.format)?);
+    let bits = lent_bytes(&mut out[0], |dst| {
+        grain::write_film_grain_params(&header.params, header.frame(), format, dst)
+    })?;
+    Ok(vec![bits as u64])
 }

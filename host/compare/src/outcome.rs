@@ -3,6 +3,7 @@
 use crate::branches::Taken;
 use crate::calls::{Call, Words};
 use crate::case::Case;
+use crate::headers::{Header, rules};
 use crate::input::{Input, Planes};
 use crate::questions;
 use grain::Refusal;
@@ -70,8 +71,10 @@ pub struct Comparison {
     pub due: Outcome,
     /// The call is accepted, writes no plane and has no words: there is nothing to compare.
     pub silent: bool,
-    /// The branches that an accepted case takes.
+    /// The branches that an accepted case takes, or the rule that a refused header breaks, if it breaks just one.
     pub taken: Taken,
+    /// What is written, where it is a header.
+    pub header: Option<Header>,
 }
 
 impl Comparison {
@@ -83,6 +86,7 @@ impl Comparison {
         let silent = wordless && call.destinations == 0;
         let taken = match &due.answer {
             Ok(words) if !silent => (call.branches.taken)(&input, words),
+            Err(10) => rules::alone(&input.header).into_iter().collect(),
             _ => Taken::new(),
         };
         Comparison {
@@ -91,6 +95,7 @@ impl Comparison {
             due,
             silent,
             taken,
+            header: call.asks.header.then_some(input.header),
         }
     }
 
@@ -102,6 +107,9 @@ impl Comparison {
 
 impl fmt::Display for Comparison {
     fn fmt(&self, f: &mut fmt::Formatter<'_>) -> fmt::Result {
+        if let Some(Header { params, inter, .. }) = &self.header {
+            writeln!(f, "  of   {params:?}, inter: {inter}")?;
+        }
         if let Some(ours) = &self.ours {
             writeln!(f, "  ours {}", ours.shown())?;
         }

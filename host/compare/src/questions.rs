@@ -1,6 +1,7 @@
 //! The questions put to a call, read off the scope's list. The Rust has none, so this list is what refusals are held to.
 
 use crate::calls::Call;
+use crate::headers::rules;
 use crate::input::{Input, plane_size};
 
 /// Which of the scope's questions a call is asked: those about things it receives.
@@ -8,22 +9,27 @@ use crate::input::{Input, plane_size};
 pub struct Asks {
     /// A size, and lent planes.
     pub size: bool,
-    /// A frame call: both sides at least 1, and a format.
+    /// A frame call: both sides at least 1.
     pub frame: bool,
+    pub format: bool,
     pub depth: bool,
     pub lag: bool,
     pub order: bool,
     pub bits: bool,
+    /// A header's record, and room to write it to.
+    pub header: bool,
 }
 
 impl Asks {
     pub const NOTHING: Asks = Asks {
         size: false,
         frame: false,
+        format: false,
         depth: false,
         lag: false,
         order: false,
         bits: false,
+        header: false,
     };
 }
 
@@ -58,7 +64,7 @@ pub const QUESTIONS: &[Question] = &[
     },
     Question {
         number: 4,
-        asked: |asks| asks.frame,
+        asked: |asks| asks.format,
         passed: |_, input| input.format <= 3,
     },
     Question {
@@ -85,6 +91,16 @@ pub const QUESTIONS: &[Question] = &[
         number: 9,
         asked: |asks| asks.bits,
         passed: |_, input| input.number <= 16,
+    },
+    Question {
+        number: 10,
+        asked: |asks| asks.header,
+        passed: |_, input| !rules::broken(&input.header),
+    },
+    Question {
+        number: 11,
+        asked: |asks| asks.header,
+        passed: |_, input| input.destination[0].len() * 8 >= input.header.bits.len(),
     },
 ];
 

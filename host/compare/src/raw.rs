@@ -3,6 +3,7 @@
 #![allow(unsafe_code)]
 
 use crate::calls::Words;
+use crate::headers::{Header, lent_bytes};
 use crate::input::{Input, Planes};
 use crate::rust::STEPS;
 use crate::words::{coefficients, float, positions, quantised, solution, whole};
@@ -229,4 +230,14 @@ pub fn register_next(input: &Input, out: &mut Planes) -> Record {
     }
     out[0][0] = register.state;
     record
+}
+
+pub fn write_film_grain_params(input: &Input, out: &mut Planes) -> Record {
+    let Header { params, inter, .. } = &input.header;
+    let format = input.format;
+    let written = lent_bytes(&mut out[0], |dst| {
+        // SAFETY: the destination is borrowed alone.
+        unsafe { call!(grain_write_film_grain_params, [params, *inter, format], [], mut [dst], []) }
+    });
+    Record::full(written.refusal, vec![written.bits as u64])
 }

@@ -1,8 +1,10 @@
 //! The Rust's side of the table, by the oracle.
 
 use crate::calls::Words;
+use crate::headers::{bits, read};
 use crate::input::{Input, Planes};
 use crate::words::{coefficients, float, positions, quantised, solution, whole};
+use grain::FilmGrainParams;
 use oracle::{RandomRegister, marks, reach};
 
 /// How often a register is stepped in one case.
@@ -137,4 +139,19 @@ pub fn register_next(input: &Input, out: &mut Planes) -> Words {
     let drawn = (0..STEPS).map(|_| register.next(bits).into()).collect();
     out[0][0] = register.state;
     drawn
+}
+
+/// The Rust has no writer. What it reads from the header's bits has to be the record, and to take all of them.
+pub fn write_film_grain_params(input: &Input, out: &mut Planes) -> Words {
+    let header = &input.header;
+    let (read, count) = read::read(&header.bits, header.inter, header.format).expect("a record");
+    let due = FilmGrainParams {
+        predicted: read.predicted,
+        ..header.params
+    };
+    assert_eq!((read, count), (due, header.bits.len()), "the Rust's record");
+    for (to, byte) in out[0].iter_mut().zip(bits::packed(&header.bits)) {
+        *to = byte.into();
+    }
+    vec![count as u64]
 }

@@ -1,5 +1,6 @@
 //! A frame pair as a scan has it, for timing: a gradient under noise of about four 8-bit steps, and its denoised copies.
 
+use crate::headers::Header;
 use crate::input::{Input, plane_size};
 use crate::noise::Size;
 use crate::random::Random;
@@ -41,6 +42,7 @@ pub fn pair(size: Size, depth: u8) -> Input {
         number: 0,
         destination: [&frames[0].y, &frames[0].u, &frames[0].v].map(|plane| vec![0; plane.len()]),
         system: System::normal(&mut random),
+        header: Header::default(),
         frames,
         denoised,
     }

@@ -13,7 +13,7 @@ struct Count {
     zero: u64,
     /// How often with each number.
     refused: BTreeMap<u32, u64>,
-    /// How often each branch.
+    /// How often each branch, and each rule broken alone.
     taken: BTreeMap<&'static str, u64>,
 }
 
@@ -35,7 +35,8 @@ impl Tally {
             *count.refused.entry(number).or_default() += 1;
         }
         for branch in &found.taken {
-            assert!(call.branches.all.contains(branch), "unlisted: {branch}");
+            let listed = call.names().any(|name| name == *branch);
+            assert!(listed, "unlisted: {branch}");
             *count.taken.entry(branch).or_default() += 1;
         }
     }
@@ -57,7 +58,7 @@ impl Tally {
         self.0.iter().map(|count| count.compared).sum()
     }
 
-    /// The refusals and the branches that no case met, by call.
+    /// The refusals, branches and broken rules that no case met, by call.
     pub fn missed(&self) -> Vec<String> {
         let mut list = Vec::new();
         for (call, count) in CALLS.iter().zip(&self.0) {
@@ -65,9 +66,8 @@ impl Tally {
             let refusals = asked.map(|question| question.number);
             let never = refusals.filter(|number| !count.refused.contains_key(number));
             list.extend(never.map(|number| format!("{}: refused with {number}", call.name)));
-            let branches = call.branches.all.iter();
-            let never = branches.filter(|&branch| !count.taken.contains_key(branch));
-            list.extend(never.map(|branch| format!("{}: {branch}", call.name)));
+            let never = call.names().filter(|name| !count.taken.contains_key(name));
+            list.extend(never.map(|name| format!("{}: {name}", call.name)));
         }
         list
     }
@@ -76,23 +76,23 @@ impl Tally {
 impl fmt::Display for Tally {
     fn fmt(&self, f: &mut fmt::Formatter<'_>) -> fmt::Result {
         let cells = |of: &dyn Fn(u32) -> u64| -> String {
-            let cell = |question: &Question| format!("{:>6}", of(question.number));
+            let cell = |question: &Question| format!("{:>8}", of(question.number));
             QUESTIONS.iter().map(cell).collect()
         };
         let heads = cells(&|number| number.into());
         let (call, compared, zeros) = ("call", "compared", "zeros");
-        let heads = &heads[5..];
-        writeln!(f, "{call:22}{compared:>9}{zeros:>9}  refused with{heads}")?;
+        let heads = &heads[7..];
+        writeln!(f, "{call:30}{compared:>9}{zeros:>9}  refused with{heads}")?;
         for (call, count) in CALLS.iter().zip(&self.0) {
             let refused = cells(&|number| count.refused.get(&number).copied().unwrap_or(0));
             let (name, compared, zeros) = (call.name, count.compared, count.zero);
-            writeln!(f, "{name:22}{compared:>9}{zeros:>9}         {refused}")?;
+            writeln!(f, "{name:30}{compared:>9}{zeros:>9}       {refused}")?;
         }
         for (call, count) in CALLS.iter().zip(&self.0) {
             writeln!(f, "{}", call.name)?;
-            for branch in call.branches.all {
-                let times = count.taken.get(branch).copied().unwrap_or(0);
-                writeln!(f, "{times:>9}  {branch}")?;
+            for name in call.names() {
+                let times = count.taken.get(name).copied().unwrap_or(0);
+                writeln!(f, "{times:>9}  {name}")?;
             }
         }
         Ok(())

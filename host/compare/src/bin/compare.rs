@@ -13,7 +13,7 @@ use std::thread;
 const USAGE: &str = "\
 compare [--calls N] [--seed S]... [--fits] [--case CASE]
 
-  --calls N    compare N drawn cases of each seed (150000), and the largest planes
+  --calls N    compare N drawn cases of each seed (270000), and the largest planes
   --seed S     draw the cases of this seed (1); there may be several
   --fits       fits of the largest planes as well, which take the Rust half a minute
   --case CASE  compare one case alone and show both outcomes; a case is";
@@ -27,7 +27,7 @@ struct Options {
 
 fn options() -> Result<Options, String> {
     let mut options = Options {
-        calls: 150_000,
+        calls: 270_000,
         seeds: Vec::new(),
         fits: false,
         case: None,

@@ -5,12 +5,14 @@
 
 mod fits;
 mod gates;
+mod headers;
 mod profiles;
 mod solver;
 
 use crate::input::{Input, Plane};
 pub use fits::{CHROMA_CORRELATION, FIT};
 pub use gates::{CB_GATE, CR_GATE, LUMA_GATE, ROW_CORRELATION};
+pub use headers::HEADER;
 pub use profiles::{PROFILE, SIGMA16};
 pub use solver::{QUANTISED_SOLUTION, QUANTISER, SOLVER};
 

@@ -1,6 +1,8 @@
 //! Times every call of the library beside the Rust's, in one run on the same planes, and writes docs/BENCHMARKS.md to its
 //! standard output.
 
+mod headers;
+
 use compare::calls::{CALLS, Call};
 use compare::clock;
 use compare::input::{Input, Planes};
@@ -260,6 +262,7 @@ fn main() {
             }
         }
     }
+    headers::table();
     if !quick {
         growth(10);
     }
