@@ -1,9 +1,11 @@
 //! The words of the command line.
 
+use clap::builder::{PathBufValueParser, PossibleValuesParser, TypedValueParser};
 use clap::{Args, Parser, Subcommand};
 use clap_complete::Shell;
+use grain::{Format, FrameType};
 use std::num::NonZeroUsize;
-use std::path::PathBuf;
+use std::path::{Path, PathBuf};
 
 /// Film-grain figures of a YUV4MPEG2 clip: what an AV1 encoder is told, and why.
 ///
@@ -23,6 +25,7 @@ pub struct Arguments {
 pub enum Command {
     Report(Report),
     Denoise(Denoise),
+    Header(Header),
     Completions(Completions),
     /// Write the manual page
     Man,
@@ -74,6 +77,30 @@ pub struct Denoise {
     pub force: bool,
 }
 
+/// Write a frame header's film_grain_params from a record, if the record is allowed.
+#[derive(Args)]
+pub struct Header {
+    /// The record, as JSON with the names that docs/REPORT.md has; - is standard input
+    #[arg(value_name = "PARAMS.json")]
+    pub params: PathBuf,
+    /// The frame's format: mono, 4:2:0, 4:2:2 or 4:4:4
+    #[arg(long, default_value = Format::Yuv420.name(), value_parser = format)]
+    pub format: Format,
+    /// The frame's type: inter for INTER_FRAME, other for any other
+    #[arg(long, value_name = "TYPE", default_value = FRAME_TYPES[0].0)]
+    #[arg(value_parser = frame_type(), hide_possible_values = true)]
+    pub frame: FrameType,
+    /// Write JSON, an object in one line; docs/REPORT.md has its fields
+    #[arg(long)]
+    pub json: bool,
+    /// Write the bytes to this file as well
+    #[arg(short, long, value_name = "OUT", value_parser = PathBufValueParser::new().try_map(file))]
+    pub output: Option<PathBuf>,
+    /// Replace a file that is there already
+    #[arg(long, requires = "output")]
+    pub force: bool,
+}
+
 /// Write the completions of a shell
 #[derive(Args)]
 pub struct Completions {
@@ -87,5 +114,43 @@ fn svg(name: &str) -> Result<PathBuf, String> {
     match path.extension() {
         Some(end) if end.eq_ignore_ascii_case("svg") => Ok(path),
         _ => Err("a plot is written as SVG: give a name that ends in .svg".to_string()),
+    }
+}
+
+pub const FORMATS: [Format; 4] = [
+    Format::Monochrome,
+    Format::Yuv420,
+    Format::Yuv422,
+    Format::Yuv444,
+];
+
+/// Not a list of values to clap, whose completions would stumble over the colons.
+fn format(name: &str) -> Result<Format, String> {
+    let format = FORMATS.into_iter().find(|format| format.name() == name);
+    format.ok_or_else(|| {
+        format!(
+            "a format is one of {}",
+            FORMATS.map(Format::name).join(", ")
+        )
+    })
+}
+
+pub const FRAME_TYPES: [(&str, FrameType); 2] =
+    [("inter", FrameType::Inter), ("other", FrameType::Other)];
+
+fn frame_type() -> impl TypedValueParser<Value = FrameType> {
+    PossibleValuesParser::new(FRAME_TYPES.map(|(name, _)| name)).map(|given| {
+        let mut types = FRAME_TYPES.into_iter();
+        let (_, frame) = types
+            .find(|(name, _)| *name == given)
+            .expect("one of these");
+        frame
+    })
+}
+
+fn file(path: PathBuf) -> Result<PathBuf, &'static str> {
+    match path == Path::new("-") {
+        true => Err("standard output has the figures: give a file's name"),
+        false => Ok(path),
     }
 }

@@ -1,5 +1,6 @@
 //! Which file a name stands for. Two names can be one file: a link, another path, a redirection.
 
+use crate::words::plain;
 use anyhow::{Result, bail};
 use std::fs::{self, Metadata};
 use std::io;
@@ -9,7 +10,7 @@ use std::path::Path;
 
 /// What is read or written, with its name in messages and, of a file or a disk, its device and inode.
 pub struct Place {
-    name: String,
+    pub name: String,
     identity: Option<(u64, u64)>,
 }
 
@@ -49,10 +50,9 @@ impl Stream {
     }
 }
 
-/// A path in messages: one line, without codes that a terminal would obey.
+/// A path in messages.
 pub fn shown(path: &Path) -> String {
-    let plain = |c: char| if c.is_control() { '\u{fffd}' } else { c };
-    path.to_string_lossy().chars().map(plain).collect()
+    plain(&path.to_string_lossy())
 }
 
 /// Refuses a run that would write into what it reads, or write two things into one.

@@ -1,6 +1,7 @@
-//! The report as JSON Lines: an object in a line for each frame, and a last one for the clip.
+//! JSON Lines. The report has an object in a line for each frame, and a last one for the clip; a header is one.
 
 use crate::figures::FrameFigures;
+use crate::header::Written;
 use crate::summary::ClipFigures;
 use anyhow::Result;
 use serde::Serialize;
@@ -22,6 +23,10 @@ pub fn frame(figures: &FrameFigures) -> Result<String> {
 
 pub fn clip(figures: &ClipFigures) -> Result<String> {
     line("clip", figures)
+}
+
+pub fn header(written: &Written) -> Result<String> {
+    line("header", written)
 }
 
 fn line(kind: &'static str, of: &impl Serialize) -> Result<String> {

@@ -1,10 +1,11 @@
-//! The command `grain`: a clip's film-grain figures, and its denoised copy.
+//! The command `grain`: a clip's film-grain figures, its denoised copy, and the grain part of a frame header.
 
 mod args;
 mod clip;
 mod denoise;
 mod figures;
 mod files;
+mod header;
 mod json;
 mod man;
 mod noise;
@@ -54,6 +55,10 @@ fn run(arguments: Arguments) -> Result<()> {
         Command::Denoise(asked) => {
             stop::watch()?;
             denoise::run(&asked)
+        }
+        Command::Header(asked) => {
+            stop::watch()?;
+            header::run(&asked)
         }
         Command::Completions(asked) => {
             let mut words = Vec::new();

@@ -49,17 +49,21 @@ fn usage(name: &str, sub: &Command) -> String {
 
 /// One argument and its help.
 fn item(arg: &Arg) -> String {
-    let takes = arg.get_action().takes_values();
-    let name = match arg.get_long() {
-        Some(long) if takes => format!(
-            "\\fB{}\\fR \\fI{}\\fR",
-            text(&format!("--{long}")),
-            text(&value(arg))
-        ),
-        Some(long) => format!("\\fB{}\\fR", text(&format!("--{long}"))),
-        None => format!("\\fI{}\\fR", text(&value(arg))),
-    };
-    format!(".TP\n{name}\n{}\n", plain(arg.get_help()))
+    let short = arg.get_short().map(|short| format!("-{short}"));
+    let long = arg.get_long().map(|long| format!("--{long}"));
+    let bold = |word: String| format!("\\fB{}\\fR", text(&word));
+    let names: Vec<_> = short.into_iter().chain(long).map(bold).collect();
+    let mut head = names.join(", ");
+    let mut help = plain(arg.get_help());
+    if names.is_empty() {
+        head = format!("\\fI{}\\fR", text(&value(arg)));
+    } else if arg.get_action().takes_values() {
+        head += &format!(" \\fI{}\\fR", text(&value(arg)));
+        for default in arg.get_default_values() {
+            help += &text(&format!(" [default: {}]", default.to_string_lossy()));
+        }
+    }
+    format!(".TP\n{head}\n{help}\n")
 }
 
 fn value(arg: &Arg) -> String {

@@ -1,4 +1,4 @@
-//! Words that fit: names shortened in the middle, sentences broken into lines.
+//! Words that fit: names shortened in the middle, sentences broken into lines, others' words in one line.
 
 use console::measure_text_width as width;
 
@@ -38,6 +38,12 @@ pub fn wrapped(sentence: &str, columns: usize, indent: &str) -> String {
         }
     }
     lines.join("\n")
+}
+
+/// Others' words in messages: one line, without codes that a terminal would obey.
+pub fn plain(words: &str) -> String {
+    let plain = |c: char| if c.is_control() { '\u{fffd}' } else { c };
+    words.chars().map(plain).collect()
 }
 
 #[cfg(test)]

@@ -1,10 +1,10 @@
-//! Mutated clips for a while: each run ends in time with a report or with one line that says why not, and leaves nothing
-//! half-written.
+//! Mutated clips and records for a while: each run ends in time with a report or with one line that says why not, and
+//! leaves nothing half-written.
 //!
 //!     GRAIN_FUZZ_SECONDS=60 GRAIN_FUZZ_SEED=7 cargo test --release --test fuzz
 //!
-//! Half of the time goes to a fixed seed and half to the day's, or to the one that is given. On a failure the clip is
-//! kept, and its folder, the words of the run and the seed are printed.
+//! Half of the time goes to a fixed seed and half to the day's, or to the one that is given. On a failure the files are
+//! kept, and their folder, the words of the run and the seed are printed.
 
 mod common;
 
@@ -76,6 +76,10 @@ const WORDS: [&str; 28] = [
     "FRAME",
 ];
 
+/// A record that passes.
+const RECORD: &str = r#"{ "apply_grain": true, "update_grain": true, "num_y_points": 2, "point_y_value": [ 1, 20 ],
+"point_y_scaling": [ 9, 60 ], "grain_scaling": 8, "ar_coeff_shift": 7, "grain_seed": 4000 }"#;
+
 /// A whole clip, of any shape and up to five frames.
 fn whole(dice: &mut Dice) -> Vec<u8> {
     let (width, height) = (1 + dice.below(20), 1 + dice.below(20));
@@ -124,6 +128,11 @@ fn change(dice: &mut Dice, bytes: &mut Vec<u8>) {
 
 /// The words of a run.
 fn words(dice: &mut Dice) -> Vec<String> {
+    if dice.below(8) == 0 {
+        let words = "header params.json --json -o out.bin --format mono --frame other";
+        let words = words.split(' ').map(String::from);
+        return words.take([2, 3, 5, 7, 9][dice.below(5)]).collect();
+    }
     let mut words: Vec<String> = if dice.below(4) == 0 {
         vec!["denoise".into(), "clip.y4m".into(), "out.y4m".into()]
     } else {
@@ -187,9 +196,12 @@ fn run(folder: &Path, words: &[String]) -> Result<Output, String> {
     })
 }
 
+/// What a run may write.
+const OUTPUTS: [&str; 3] = ["out.y4m", "out.svg", "out.bin"];
+
 /// What is wrong with a run, if anything is.
 fn wrong(folder: &Path, words: &[String]) -> Result<bool, String> {
-    for name in ["out.y4m", "out.svg"] {
+    for name in OUTPUTS {
         let _ = fs::remove_file(folder.join(name));
     }
     let run = run(folder, words)?;
@@ -221,12 +233,13 @@ fn wrong(folder: &Path, words: &[String]) -> Result<bool, String> {
     } else if let Some(line) = shown.lines().find(|line| line.chars().count() > 80) {
         return Err(format!("more than 80 columns: {line:?}"));
     }
-    let asked = ["out.y4m", "out.svg"]
+    let asked = OUTPUTS
         .into_iter()
         .find(|name| words.iter().any(|word| word == name));
     for entry in fs::read_dir(folder).unwrap() {
         let name = entry.unwrap().file_name().into_string().unwrap();
-        let known = ["clip.y4m", "copy.y4m", "stdout", "stderr"].contains(&&name[..]);
+        let known = ["clip.y4m", "copy.y4m", "params.json", "stdout", "stderr"];
+        let known = known.contains(&&name[..]);
         if !known && !(passed && asked == Some(&name)) {
             return Err(format!("{name} is left"));
         }
@@ -257,6 +270,11 @@ fn round(seed: u64, long: Duration) -> bool {
             change(&mut dice, &mut bytes);
         }
         fs::write(folder.join("clip.y4m"), &bytes).unwrap();
+        let mut bytes = RECORD.into();
+        for _ in 0..dice.below(4) {
+            change(&mut dice, &mut bytes);
+        }
+        fs::write(folder.join("params.json"), &bytes).unwrap();
         let words = words(&mut dice);
         match wrong(&folder, &words) {
             Ok(accepted) => passed += usize::from(accepted),
@@ -270,7 +288,7 @@ fn round(seed: u64, long: Duration) -> bool {
         }
         runs += 1;
     }
-    println!("fuzz: seed {seed}: {runs} clips, {passed} accepted, none wrong");
+    println!("fuzz: seed {seed}: {runs} runs, {passed} accepted, none wrong");
     let both = passed > 0 && passed < runs;
     let _ = fs::remove_dir_all(&folder);
     both || runs < 100

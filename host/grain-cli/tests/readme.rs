@@ -1,8 +1,8 @@
-//! What README shows is what there is: the report, the plot, and the two examples.
+//! What README and docs/REPORT.md show is what there is: the report, the plot, the two examples, and the header.
 
 mod common;
 
-use common::{folder, on_sample, sample, written};
+use common::{folder, on_sample, said, sample, written};
 use std::fs;
 use std::path::{Path, PathBuf};
 use std::process::Command;
@@ -11,10 +11,10 @@ fn root() -> PathBuf {
     Path::new(env!("CARGO_MANIFEST_DIR")).join("../..")
 }
 
-/// README's block of a kind, without its fences.
-fn block(kind: &str) -> String {
-    let readme = fs::read_to_string(root().join("README.md")).unwrap();
-    let (_, rest) = readme.split_once(&format!("\n```{kind}\n")).unwrap();
+/// A page's block of a kind, without its fences.
+fn block(page: &str, kind: &str) -> String {
+    let page = fs::read_to_string(root().join(page)).unwrap();
+    let (_, rest) = page.split_once(&format!("\n```{kind}\n")).unwrap();
     let (block, _) = rest.split_once("```").unwrap();
     block.to_string()
 }
@@ -30,7 +30,7 @@ fn the_report_and_the_plot() {
     let plot = samples.join("readme.svg");
     let words = on_sample(&["--brief", "--plot", "readme.svg", "--force"]);
     let shown = String::from_utf8(written(samples, &words)).unwrap();
-    assert_eq!(block("text"), shown);
+    assert_eq!(block("README.md", "text"), shown);
     let committed = fs::read_to_string(root().join("docs/grain.svg")).unwrap();
     assert_eq!(texts(&committed), texts(&fs::read_to_string(plot).unwrap()));
 }
@@ -75,11 +75,27 @@ fn the_true_coefficients_beside_those_found() {
 }
 
 #[test]
+fn the_header() {
+    let folder = folder("readme-header");
+    let record = block("docs/REPORT.md", "json");
+    fs::write(folder.join("params.json"), &record).unwrap();
+    let shown = String::from_utf8(written(&folder, &["header", "params.json"])).unwrap();
+    assert_eq!(block("docs/REPORT.md", "text"), shown);
+    let refused = record.replace("\"grain_scaling\": 10", "\"grain_scaling\": 12");
+    fs::write(folder.join("params.json"), refused).unwrap();
+    let page = fs::read_to_string(root().join("docs/REPORT.md")).unwrap();
+    assert!(page.contains(&said(&folder, &["header", "params.json"])));
+}
+
+#[test]
 fn the_examples() {
     let c = root().join("examples/figures.c");
-    assert_eq!(block("c"), fs::read_to_string(&c).unwrap());
+    assert_eq!(block("README.md", "c"), fs::read_to_string(&c).unwrap());
     let rust = root().join("host/grain/examples/figures.rs");
-    assert_eq!(block("rust"), fs::read_to_string(rust).unwrap());
+    assert_eq!(
+        block("README.md", "rust"),
+        fs::read_to_string(rust).unwrap()
+    );
     let archive =
         std::env::var_os("GRAIN_LIB_DIR").map_or(root().join("target/staticlib"), PathBuf::from);
     let built = folder("example").join("figures");

@@ -253,7 +253,7 @@ fn completions_and_the_manual_page() {
     ] {
         let words = String::from_utf8(written(&folder, &["completions", shell])).unwrap();
         assert!(
-            words.contains(word) && words.contains("denoised"),
+            words.contains(word) && words.contains("denoised") && words.contains("inter"),
             "{shell}: {words}"
         );
     }
@@ -261,12 +261,18 @@ fn completions_and_the_manual_page() {
     assert!(page.starts_with(".TH GRAIN 1"));
     for option in [
         "denoised", "from", "every", "frames", "brief", "json", "plot", "force", "threads",
+        "format", "frame", "output",
     ] {
         assert!(
             page.contains(&format!("\\fB\\-\\-{option}\\fR")),
             "{option}: {page}"
         );
     }
+    assert!(
+        page.contains("\\fB\\-o\\fR, \\fB\\-\\-output\\fR \\fIOUT\\fR"),
+        "{page}"
+    );
+    assert!(page.contains("4:4:4 [default: 4:2:0]"), "{page}");
     assert!(
         !page.contains("\n'"),
         "no line that roff would take for a request"

@@ -1,6 +1,8 @@
 //! Clips for the tests, and the command run on them.
 #![allow(dead_code)] // each test file uses a part
 
+pub mod record;
+
 use grain::{Format, Frame, Shape};
 use serde_json::{Value, json};
 use std::fs;
