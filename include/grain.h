@@ -314,77 +314,18 @@ typedef struct grain_film_params {
     bool predicted; /* neither written nor looked at */
 } grain_film_params;
 
-/* The fields of a grain_film_params that the syntax has, without its lists. */
-typedef struct grain_film_fields {
-    bool apply_grain;
-    uint16_t grain_seed;
-    bool update_grain;
-    uint8_t film_grain_params_ref_idx;
-    uint8_t num_y_points;
-    bool chroma_scaling_from_luma;
-    uint8_t num_cb_points;
-    uint8_t num_cr_points;
-    uint8_t grain_scaling;
-    uint8_t ar_coeff_lag;
-    uint8_t ar_coeff_shift;
-    uint8_t grain_scale_shift;
-    uint8_t cb_mult;
-    uint8_t cb_luma_mult;
-    uint16_t cb_offset;
-    uint8_t cr_mult;
-    uint8_t cr_luma_mult;
-    uint16_t cr_offset;
-    bool overlap_flag;
-    bool clip_to_restricted_range;
-} grain_film_fields;
-
 typedef struct grain_written {
     uint32_t refusal;
     size_t bits;
 } grain_written;
 
-/* grain_write_film_grain_params of a record's fields, and of its lists where they stand: 14, 14, 10, 10, 10, 10, 24, 25 and
- * 25 bytes. dst overlaps none of them.
- * Asked 4, 10, 11. */
-grain_written grain_write_film_grain_fields(grain_film_fields f, const uint8_t *point_y_value, const uint8_t *point_y_scaling,
-                                            const uint8_t *point_cb_value, const uint8_t *point_cb_scaling,
-                                            const uint8_t *point_cr_value, const uint8_t *point_cr_scaling,
-                                            const uint8_t *ar_coeffs_y_plus_128, const uint8_t *ar_coeffs_cb_plus_128,
-                                            const uint8_t *ar_coeffs_cr_plus_128, bool inter, uint8_t format,
-                                            uint8_t *dst, size_t dst_len);
-
 /* The bits of film_grain_params after its presence test, from the highest of dst[0] on; the last byte is filled with
  * zeros, bytes past it stay, and `bits` doesn't count the fill. `inter`: the frame is an INTER_FRAME. Whether the slot
- * film_grain_params_ref_idx is among the frame's references isn't looked at. dst overlaps nothing of the record.
+ * film_grain_params_ref_idx is among the frame's references isn't looked at. dst overlaps nothing of the record, of which
+ * nothing is changed.
  * Asked 4, 10, 11. */
-static inline grain_written grain_write_film_grain_params(const grain_film_params *p, bool inter, uint8_t format,
-                                                          uint8_t *dst, size_t dst_len)
-{
-    grain_film_fields f;
-    f.apply_grain = p->apply_grain;
-    f.grain_seed = p->grain_seed;
-    f.update_grain = p->update_grain;
-    f.film_grain_params_ref_idx = p->film_grain_params_ref_idx;
-    f.num_y_points = p->num_y_points;
-    f.chroma_scaling_from_luma = p->chroma_scaling_from_luma;
-    f.num_cb_points = p->num_cb_points;
-    f.num_cr_points = p->num_cr_points;
-    f.grain_scaling = p->grain_scaling;
-    f.ar_coeff_lag = p->ar_coeff_lag;
-    f.ar_coeff_shift = p->ar_coeff_shift;
-    f.grain_scale_shift = p->grain_scale_shift;
-    f.cb_mult = p->cb_mult;
-    f.cb_luma_mult = p->cb_luma_mult;
-    f.cb_offset = p->cb_offset;
-    f.cr_mult = p->cr_mult;
-    f.cr_luma_mult = p->cr_luma_mult;
-    f.cr_offset = p->cr_offset;
-    f.overlap_flag = p->overlap_flag;
-    f.clip_to_restricted_range = p->clip_to_restricted_range;
-    return grain_write_film_grain_fields(f, p->point_y_value, p->point_y_scaling, p->point_cb_value, p->point_cb_scaling,
-                                         p->point_cr_value, p->point_cr_scaling, p->ar_coeffs_y_plus_128,
-                                         p->ar_coeffs_cb_plus_128, p->ar_coeffs_cr_plus_128, inter, format, dst, dst_len);
-}
+grain_written grain_write_film_grain_params(const grain_film_params *p, bool inter, uint8_t format,
+                                            uint8_t *dst, size_t dst_len);
 
 #ifdef __cplusplus
 }

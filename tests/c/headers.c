@@ -203,32 +203,64 @@ static void edges(void)
         }
 }
 
-/* Lists that stand apart: each is read to its last place and no further, whether its places are written or skipped. */
-static void lists(void)
+/* A record is read within its bytes and left as it was: memory ends where it does, or begins there. */
+static void records(void)
 {
-    enum { LISTS = 9 };
-    const size_t places[LISTS] = {14, 14, 10, 10, 10, 10, 24, 25, 25};
-    const grain_film_fields none = {0},
-                            all = {.apply_grain = true, .update_grain = true, .num_y_points = 14, .num_cb_points = 10,
-                                   .num_cr_points = 10, .grain_scaling = 8, .ar_coeff_lag = 3, .ar_coeff_shift = 6};
-    uint8_t to[GRAIN_MAX_HEADER_BYTES];
-#define WRITE(f) \
-    grain_write_film_grain_fields(f, l[0], l[1], l[2], l[3], l[4], l[5], l[6], l[7], l[8], true, GRAIN_YUV420, LENT(to))
-    for (int first = 0; first < 2; first++) {
-        uint8_t *l[LISTS];
-        for (size_t i = 0; i < LISTS; i++)
-            l[i] = edge(places[i], first);
-        SAME(WRITE(none).bits, 1);
-        for (size_t i = 0; i < LISTS; i++) {
-            uint8_t *last = &l[i][places[i] - 1];
-            *last = 1;
-            SAME(WRITE(none).refusal, GRAIN_HEADER_FIELD);
-            *last = 0;
+    const struct { grain_film_params params; size_t bits; } headers[] = {{{0}, 1}, {largest(), 1227}};
+    for (size_t i = 0; i < sizeof headers / sizeof headers[0]; i++)
+        for (int first = 0; first < 2; first++) {
+            const grain_film_params *was = &headers[i].params;
+            grain_film_params *p = memcpy(edge(sizeof *p, first), was, sizeof *p);
+            size_t bits = headers[i].bits, n = (bits + 7) / 8;
+            uint8_t to[GRAIN_MAX_HEADER_BYTES], same[GRAIN_MAX_HEADER_BYTES];
+            SAME(grain_write_film_grain_params(was, true, GRAIN_YUV420, LENT(to)).bits, bits);
+            SAME(grain_write_film_grain_params(p, true, GRAIN_YUV420, LENT(same)).bits, bits);
+            compare(__LINE__, "the same bytes", same, to, n);
+            compare(__LINE__, "record as it was", p, was, sizeof *p);
         }
-        for (size_t i = 0; i < 6; i += 2) /* the points' values */
-            for (size_t k = 0; k < places[i]; k++)
-                l[i][k] = (uint8_t)k;
-        SAME(WRITE(all).bits, 1227);
+}
+
+/* The padding and `predicted`. */
+static bool unread(size_t at)
+{
+    return at == 1 || at == offsetof(grain_film_params, predicted) || at == 167;
+}
+
+/* Every byte of a record is looked at but the unread ones, and a flag is true where its byte isn't 0. Neither 2 nor 0xff is
+ * a bool, so C itself reads no flag of these records. */
+static void bytes(void)
+{
+    const size_t flags[] = {offsetof(grain_film_params, apply_grain), offsetof(grain_film_params, update_grain),
+                            offsetof(grain_film_params, chroma_scaling_from_luma), offsetof(grain_film_params, overlap_flag),
+                            offsetof(grain_film_params, clip_to_restricted_range)};
+    grain_film_params p, from_luma = two_points;
+    unsigned char *byte = memset(&p, 0, sizeof p);
+    uint8_t to[GRAIN_MAX_HEADER_BYTES], same[GRAIN_MAX_HEADER_BYTES];
+    for (size_t at = 0; at < sizeof p; at++) {
+        byte[at] = 2;
+        size_t bits = at == 0 ? 21 : unread(at) ? 1 : 0;
+        grain_written w = grain_write_film_grain_params(&p, true, GRAIN_YUV420, LENT(to));
+        SAME(w.refusal, bits > 0 ? GRAIN_ACCEPTED : GRAIN_HEADER_FIELD);
+        SAME(w.bits, bits);
+        byte[at] = 0;
+    }
+
+    from_luma.chroma_scaling_from_luma = true;
+    const struct { grain_film_params params; size_t bits; } headers[] = {{{0}, 1}, {from_luma, 177}, {largest(), 1227}};
+    for (size_t i = 0; i < sizeof headers / sizeof headers[0]; i++) {
+        size_t bits = headers[i].bits, n = (bits + 7) / 8;
+        SAME(grain_write_film_grain_params(&headers[i].params, true, GRAIN_YUV420, LENT(to)).bits, bits);
+        memcpy(byte, &headers[i].params, sizeof p);
+        for (size_t at = 0; at < sizeof p; at++)
+            if (unread(at))
+                byte[at] = 0xff;
+        SAME(grain_write_film_grain_params(&p, true, GRAIN_YUV420, LENT(same)).bits, bits);
+        compare(__LINE__, "the same bytes", same, to, n);
+        for (size_t k = 0; k < sizeof flags / sizeof flags[0]; k++)
+            byte[flags[k]] *= 2;
+        memset(same, 0xff, sizeof same);
+        SAME(grain_write_film_grain_params(&p, true, GRAIN_YUV420, LENT(same)).bits, bits);
+        compare(__LINE__, "the same bytes", same, to, n);
     }
 }
 
@@ -237,6 +269,7 @@ int main(void)
     written();
     refused();
     edges();
-    lists();
+    records();
+    bytes();
     return ended("headers.c");
 }

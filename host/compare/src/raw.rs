@@ -236,7 +236,7 @@ pub fn write_film_grain_params(input: &Input, out: &mut Planes) -> Record {
     let Header { params, inter, .. } = &input.header;
     let format = input.format;
     let written = lent_bytes(&mut out[0], |dst| {
-        // SAFETY: the destination is borrowed alone.
+        // SAFETY: the record is borrowed, and the destination alone.
         unsafe { call!(grain_write_film_grain_params, [params, *inter, format], [], mut [dst], []) }
     });
     Record::full(written.refusal, vec![written.bits as u64])

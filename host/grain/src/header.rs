@@ -93,7 +93,7 @@ pub fn write_film_grain_params(
     dst: &mut [u8],
 ) -> Result<usize, Refusal> {
     let inter = frame == FrameType::Inter;
-    // SAFETY: the destination is alive and nothing else holds it.
+    // SAFETY: record and destination are alive, and nothing else holds the destination.
     let written = unsafe {
         sys::call!(grain_write_film_grain_params, [params, inter, format as u8], [], mut [dst], [])
     };

@@ -1,8 +1,8 @@
 //! The C interface as `include/grain.h` declares it. A slice crosses as a pointer and its number of elements.
 //!
 //! A caller of these functions answers for the pointers: each is aligned and good for as many elements as the number
-//! beside it says, so that with 0 it may be null; what is written overlaps nothing else. The safe functions of this crate
-//! see to that.
+//! beside it says, so that with 0 it may be null, and without a number for what the header says; what is written overlaps
+//! nothing else. The safe functions of this crate see to that.
 
 /// `grain_shape`
 #[repr(C)]
@@ -179,60 +179,6 @@ pub struct FilmGrainParams {
     pub predicted: bool,
 }
 
-/// `grain_film_fields`
-#[repr(C)]
-#[derive(Debug, Clone, Copy)]
-pub struct FilmGrainFields {
-    pub apply_grain: bool,
-    pub grain_seed: u16,
-    pub update_grain: bool,
-    pub film_grain_params_ref_idx: u8,
-    pub num_y_points: u8,
-    pub chroma_scaling_from_luma: bool,
-    pub num_cb_points: u8,
-    pub num_cr_points: u8,
-    pub grain_scaling: u8,
-    pub ar_coeff_lag: u8,
-    pub ar_coeff_shift: u8,
-    pub grain_scale_shift: u8,
-    pub cb_mult: u8,
-    pub cb_luma_mult: u8,
-    pub cb_offset: u16,
-    pub cr_mult: u8,
-    pub cr_luma_mult: u8,
-    pub cr_offset: u16,
-    pub overlap_flag: bool,
-    pub clip_to_restricted_range: bool,
-}
-
-impl FilmGrainParams {
-    #[inline]
-    fn fields(&self) -> FilmGrainFields {
-        FilmGrainFields {
-            apply_grain: self.apply_grain,
-            grain_seed: self.grain_seed,
-            update_grain: self.update_grain,
-            film_grain_params_ref_idx: self.film_grain_params_ref_idx,
-            num_y_points: self.num_y_points,
-            chroma_scaling_from_luma: self.chroma_scaling_from_luma,
-            num_cb_points: self.num_cb_points,
-            num_cr_points: self.num_cr_points,
-            grain_scaling: self.grain_scaling,
-            ar_coeff_lag: self.ar_coeff_lag,
-            ar_coeff_shift: self.ar_coeff_shift,
-            grain_scale_shift: self.grain_scale_shift,
-            cb_mult: self.cb_mult,
-            cb_luma_mult: self.cb_luma_mult,
-            cb_offset: self.cb_offset,
-            cr_mult: self.cr_mult,
-            cr_luma_mult: self.cr_luma_mult,
-            cr_offset: self.cr_offset,
-            overlap_flag: self.overlap_flag,
-            clip_to_restricted_range: self.clip_to_restricted_range,
-        }
-    }
-}
-
 /// `grain_written`
 #[repr(C)]
 #[derive(Debug, Clone, Copy)]
@@ -402,55 +348,11 @@ unsafe extern "C" {
 
     pub fn grain_random_step(r: Random, bits: u32) -> Stepped;
 
-    pub fn grain_write_film_grain_fields(
-        f: FilmGrainFields,
-        point_y_value: *const u8,
-        point_y_scaling: *const u8,
-        point_cb_value: *const u8,
-        point_cb_scaling: *const u8,
-        point_cr_value: *const u8,
-        point_cr_scaling: *const u8,
-        ar_coeffs_y_plus_128: *const u8,
-        ar_coeffs_cb_plus_128: *const u8,
-        ar_coeffs_cr_plus_128: *const u8,
+    pub fn grain_write_film_grain_params(
+        p: *const FilmGrainParams,
         inter: bool,
         format: u8,
         dst: *mut u8,
         dst_len: usize,
     ) -> Written;
-}
-
-/// `grain_write_film_grain_params`, which the header has inline: `grain_write_film_grain_fields` of the record's fields and
-/// lists.
-///
-/// # Safety
-///
-/// `dst` is good for `dst_len` bytes, none of them the record's; with 0 it may be null.
-#[inline]
-pub unsafe fn grain_write_film_grain_params(
-    p: &FilmGrainParams,
-    inter: bool,
-    format: u8,
-    dst: *mut u8,
-    dst_len: usize,
-) -> Written {
-    // SAFETY: each list has the length that the call takes it to have, and the caller answers for the destination.
-    unsafe {
-        grain_write_film_grain_fields(
-            p.fields(),
-            p.point_y_value.as_ptr(),
-            p.point_y_scaling.as_ptr(),
-            p.point_cb_value.as_ptr(),
-            p.point_cb_scaling.as_ptr(),
-            p.point_cr_value.as_ptr(),
-            p.point_cr_scaling.as_ptr(),
-            p.ar_coeffs_y_plus_128.as_ptr(),
-            p.ar_coeffs_cb_plus_128.as_ptr(),
-            p.ar_coeffs_cr_plus_128.as_ptr(),
-            inter,
-            format,
-            dst,
-            dst_len,
-        )
-    }
 }

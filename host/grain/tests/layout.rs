@@ -21,7 +21,6 @@ fn sizes() {
     assert_eq!(size_of::<Draw>(), 8);
     assert_eq!(size_of::<Stepped>(), 12);
     assert_eq!(size_of::<FilmGrainParams>(), 168);
-    assert_eq!(size_of::<FilmGrainFields>(), 24);
     assert_eq!(size_of::<Written>(), 16);
 }
 
@@ -80,28 +79,4 @@ fn places_of_a_header() {
     assert_eq!(offset_of!(FilmGrainParams, overlap_flag), 164);
     assert_eq!(offset_of!(FilmGrainParams, clip_to_restricted_range), 165);
     assert_eq!(offset_of!(FilmGrainParams, predicted), 166);
-}
-
-#[test]
-fn places_of_a_headers_fields() {
-    assert_eq!(offset_of!(FilmGrainFields, apply_grain), 0);
-    assert_eq!(offset_of!(FilmGrainFields, grain_seed), 2);
-    assert_eq!(offset_of!(FilmGrainFields, update_grain), 4);
-    assert_eq!(offset_of!(FilmGrainFields, film_grain_params_ref_idx), 5);
-    assert_eq!(offset_of!(FilmGrainFields, num_y_points), 6);
-    assert_eq!(offset_of!(FilmGrainFields, chroma_scaling_from_luma), 7);
-    assert_eq!(offset_of!(FilmGrainFields, num_cb_points), 8);
-    assert_eq!(offset_of!(FilmGrainFields, num_cr_points), 9);
-    assert_eq!(offset_of!(FilmGrainFields, grain_scaling), 10);
-    assert_eq!(offset_of!(FilmGrainFields, ar_coeff_lag), 11);
-    assert_eq!(offset_of!(FilmGrainFields, ar_coeff_shift), 12);
-    assert_eq!(offset_of!(FilmGrainFields, grain_scale_shift), 13);
-    assert_eq!(offset_of!(FilmGrainFields, cb_mult), 14);
-    assert_eq!(offset_of!(FilmGrainFields, cb_luma_mult), 15);
-    assert_eq!(offset_of!(FilmGrainFields, cb_offset), 16);
-    assert_eq!(offset_of!(FilmGrainFields, cr_mult), 18);
-    assert_eq!(offset_of!(FilmGrainFields, cr_luma_mult), 19);
-    assert_eq!(offset_of!(FilmGrainFields, cr_offset), 20);
-    assert_eq!(offset_of!(FilmGrainFields, overlap_flag), 22);
-    assert_eq!(offset_of!(FilmGrainFields, clip_to_restricted_range), 23);
 }
