@@ -9,7 +9,7 @@ use native.Mathlib.Nat.{eq-or-lt-of-le}
 use lib.Dec.{ltb, eqb}
 use lib.ListN.{getD}
 use borrow.Author.Tests.{ltb-false, lt-ltb, eq-eqb, ne-eqb}
-use Rattle.header.specs.declared.FilmGrainParams.{FilmGrainParams}
+use Rattle.header.specs.Record.{FilmGrainParams}
 use Rattle.header.specs.declared.counts.Counts.{Counts}
 use Rattle.header.specs.Row.{Row, limited, bit, each}
 use Rattle.header.specs.Text.{coded, chroma, yuv420, countsOf, point, points, opening, lumaPart, chromaPart, filterPart, closing, table, rows}

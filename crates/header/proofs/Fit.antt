@@ -9,7 +9,7 @@ use lib.Dec.{leb, eqb}
 use lib.Pow.{pow-pos}
 use borrow.Author.Tests.{leb-true, eqb-true}
 use Rattle.laws.specs.Limits.{neighbourLimit, orderLimit}
-use Rattle.header.specs.declared.FilmGrainParams.{FilmGrainParams}
+use Rattle.header.specs.Record.{FilmGrainParams}
 use Rattle.header.specs.declared.counts.Counts.{Counts}
 use Rattle.header.specs.Row.{Row, limited, raised, field, each, width, code, allowed}
 use Rattle.header.specs.Text.{lumaPointLimit, chromaPointLimit, yuv420, countsOf, point, points, coeff, coeffs, opening, lumaPart, chromaPart, filterPart, closing, table, rows}

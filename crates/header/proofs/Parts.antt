@@ -6,7 +6,7 @@ use Prim.Native.Nat.{ℕ, _-_}
 use native.Mathlib.Omega.{arith}
 use lib.Dec.{ltb}
 use Rattle.laws.specs.Limits.{neighbourLimit, orderLimit}
-use Rattle.header.specs.declared.FilmGrainParams.{FilmGrainParams}
+use Rattle.header.specs.Record.{FilmGrainParams}
 use Rattle.header.specs.declared.counts.Counts.{Counts}
 use Rattle.header.specs.Row.{Row, limited, raised, bit, width, code}
 use Rattle.header.specs.Text.{lumaPointLimit, chromaPointLimit, monochrome, points, coeffs, opening, lumaPart, chromaPart, filterPart, closing, rest, table}

@@ -11,7 +11,7 @@ use lib.ListN.{length, getD, List·getD-eq-default}
 use borrow.Author.Tests.{ltb-true, ltb-false, lt-ltb, le-ltb}
 use Rattle.laws.specs.Table.{tabulate}
 use Rattle.laws.proofs.Table.{length-tabulate, getD-tabulate}
-use Rattle.header.specs.declared.FilmGrainParams.{FilmGrainParams}
+use Rattle.header.specs.Record.{FilmGrainParams}
 use Rattle.header.specs.Row.{Row, width, code}
 use Rattle.header.specs.Text.{rows}
 use Rattle.header.specs.Bits.{digits, number, bitsOf, byteAt, packed}

@@ -3,7 +3,7 @@ use mathlib.Core.Path.{_≡_, refl}
 use mathlib.Core.Bool.{Bool}
 use mathlib.Core.List.{List}
 use Prim.Native.Nat.{ℕ}
-use Rattle.header.specs.declared.FilmGrainParams.{FilmGrainParams}
+use Rattle.header.specs.Record.{FilmGrainParams}
 use Rattle.header.specs.Text.{countsOf, opening, lumaPart, chromaPart, filterPart, closing, table, rows}
 use Rattle.header.specs.Calls.{headerBits, writeRefusal, writeOutcome}
 use Rattle.header.specs.Reset.{withPredicted}

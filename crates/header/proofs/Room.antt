@@ -6,7 +6,7 @@ use native.Mathlib.Omega.{arith}
 use lib.Dec.{leb}
 use lib.ListN.{length}
 use borrow.Author.Tests.{le-leb}
-use Rattle.header.specs.declared.FilmGrainParams.{FilmGrainParams}
+use Rattle.header.specs.Record.{FilmGrainParams}
 use Rattle.header.specs.Text.{rows}
 use Rattle.header.specs.Bits.{allAllowed}
 use Rattle.header.specs.Calls.{headerBits, writeRefusal}

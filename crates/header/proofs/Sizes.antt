@@ -9,7 +9,7 @@ use lib.Dec.{ltb}
 use lib.ListN.{length, take, drop, length-append}
 use borrow.Author.Tests.{ltb-true, ltb-false}
 use Rattle.laws.specs.Limits.{neighbourLimit, orderLimit}
-use Rattle.header.specs.declared.FilmGrainParams.{FilmGrainParams}
+use Rattle.header.specs.Record.{FilmGrainParams}
 use Rattle.header.specs.declared.counts.Counts.{Counts}
 use Rattle.header.specs.Row.{Row, each, width, code}
 use Rattle.header.specs.Text.{lumaPointLimit, chromaPointLimit, monochrome, coded, countsOf, point, points, coeff, coeffs, opening, lumaPart, chromaPart, filterPart, closing, table, rows}

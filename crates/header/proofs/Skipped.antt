@@ -5,7 +5,7 @@ use mathlib.Core.List.{[], _∷_, map}
 use Prim.Native.Nat.{ℕ, _≤_}
 use lib.ListN.{drop, replicate}
 use borrow.Author.Tests.{le-leb}
-use Rattle.header.specs.declared.FilmGrainParams.{FilmGrainParams}
+use Rattle.header.specs.Record.{FilmGrainParams}
 use Rattle.header.specs.Row.{each, width, code, allowed}
 use Rattle.header.specs.Text.{countsOf, point, points, coeff, coeffs, opening, lumaPart, chromaPart, filterPart, closing, table, rows}
 use Rattle.header.specs.Bits.{digits, number, bitsOf, allAllowed}

@@ -4,7 +4,7 @@ use mathlib.Core.Bool.{Bool, true, false}
 use mathlib.Core.List.{List, [], _∷_}
 use Prim.Native.Nat.{_≤_}
 use lib.ListN.{take, drop}
-use Rattle.header.specs.declared.FilmGrainParams.{FilmGrainParams}
+use Rattle.header.specs.Record.{FilmGrainParams}
 use Rattle.header.specs.Row.{Row}
 use Rattle.header.specs.Text.{opening}
 

@@ -5,7 +5,7 @@ use Prim.Native.Nat.{ℕ, _+_, _/_}
 use lib.Dec.{leb}
 use lib.ListN.{length}
 use Rattle.frame.specs.Questions.{Question, firstNo, accepted, formatKnown}
-use Rattle.header.specs.declared.FilmGrainParams.{FilmGrainParams}
+use Rattle.header.specs.Record.{FilmGrainParams}
 use Rattle.header.specs.declared.Written.{Written}
 use Rattle.header.specs.Row.{Row}
 use Rattle.header.specs.Text.{rows}

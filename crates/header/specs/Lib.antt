@@ -1,5 +1,6 @@
 -- the syntax, and what a call leaves
 pub mod Record
+pub mod Stored
 pub mod Row
 pub mod Text
 pub mod Bits
@@ -7,6 +8,7 @@ pub mod Reset
 pub mod Size
 pub mod Calls
 -- what only contracts of the parts use
+pub mod Scalars
 pub mod Held
 -- what theorems say
 pub mod Fits

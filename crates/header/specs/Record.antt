@@ -1,45 +1,36 @@
--- A record put together: its fields, then its lists as they stand in it. `predicted` "is neither written nor tested".
-use mathlib.Core.Bool.{false}
-use mathlib.Core.List.{List, []}
+-- "A FilmGrainParams record": the fields of the Rust's record, by the syntax's names. `grain_scaling` is stored with 8 added and `ar_coeff_shift` with 6.
+use mathlib.Core.Bool.{Bool}
+use mathlib.Core.List.{List}
 use Prim.Native.Nat.{ℕ}
-use Rattle.header.specs.declared.Fields.{Fields}
-use Rattle.header.specs.declared.FilmGrainParams.{FilmGrainParams}
 
-abbrev pub params : Fields → List ℕ → List ℕ → List ℕ → List ℕ → List ℕ → List ℕ → List ℕ → List ℕ → List ℕ → FilmGrainParams
-params f y-values y-scalings cb-values cb-scalings cr-values cr-scalings y-coeffs cb-coeffs cr-coeffs =
-    record {
-      «apply_grain» = f .«apply_grain»;
-      «grain_seed» = f .«grain_seed»;
-      «update_grain» = f .«update_grain»;
-      «film_grain_params_ref_idx» = f .«film_grain_params_ref_idx»;
-      «num_y_points» = f .«num_y_points»;
-      «point_y_value» = y-values;
-      «point_y_scaling» = y-scalings;
-      «chroma_scaling_from_luma» = f .«chroma_scaling_from_luma»;
-      «num_cb_points» = f .«num_cb_points»;
-      «point_cb_value» = cb-values;
-      «point_cb_scaling» = cb-scalings;
-      «num_cr_points» = f .«num_cr_points»;
-      «point_cr_value» = cr-values;
-      «point_cr_scaling» = cr-scalings;
-      «grain_scaling» = f .«grain_scaling»;
-      «ar_coeff_lag» = f .«ar_coeff_lag»;
-      «ar_coeffs_y_plus_128» = y-coeffs;
-      «ar_coeffs_cb_plus_128» = cb-coeffs;
-      «ar_coeffs_cr_plus_128» = cr-coeffs;
-      «ar_coeff_shift» = f .«ar_coeff_shift»;
-      «grain_scale_shift» = f .«grain_scale_shift»;
-      «cb_mult» = f .«cb_mult»;
-      «cb_luma_mult» = f .«cb_luma_mult»;
-      «cb_offset» = f .«cb_offset»;
-      «cr_mult» = f .«cr_mult»;
-      «cr_luma_mult» = f .«cr_luma_mult»;
-      «cr_offset» = f .«cr_offset»;
-      «overlap_flag» = f .«overlap_flag»;
-      «clip_to_restricted_range» = f .«clip_to_restricted_range»;
-      predicted = false;
-    }
-
--- with empty lists, where only its fields matter
-abbrev pub scalars : Fields → FilmGrainParams
-scalars f = params f [] [] [] [] [] [] [] [] []
+pub record FilmGrainParams : Type 0 where
+  pub «apply_grain» : Bool
+  pub «grain_seed» : ℕ
+  pub «update_grain» : Bool
+  pub «film_grain_params_ref_idx» : ℕ
+  pub «num_y_points» : ℕ
+  pub «point_y_value» : List ℕ
+  pub «point_y_scaling» : List ℕ
+  pub «chroma_scaling_from_luma» : Bool
+  pub «num_cb_points» : ℕ
+  pub «point_cb_value» : List ℕ
+  pub «point_cb_scaling» : List ℕ
+  pub «num_cr_points» : ℕ
+  pub «point_cr_value» : List ℕ
+  pub «point_cr_scaling» : List ℕ
+  pub «grain_scaling» : ℕ
+  pub «ar_coeff_lag» : ℕ
+  pub «ar_coeffs_y_plus_128» : List ℕ
+  pub «ar_coeffs_cb_plus_128» : List ℕ
+  pub «ar_coeffs_cr_plus_128» : List ℕ
+  pub «ar_coeff_shift» : ℕ
+  pub «grain_scale_shift» : ℕ
+  pub «cb_mult» : ℕ
+  pub «cb_luma_mult» : ℕ
+  pub «cb_offset» : ℕ
+  pub «cr_mult» : ℕ
+  pub «cr_luma_mult» : ℕ
+  pub «cr_offset» : ℕ
+  pub «overlap_flag» : Bool
+  pub «clip_to_restricted_range» : Bool
+  pub predicted : Bool

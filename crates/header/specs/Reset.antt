@@ -1,7 +1,7 @@
 -- "`FilmGrainParams::reset`": every field is 0 or false.
 use mathlib.Core.Bool.{Bool, false}
 use lib.ListN.{replicate}
-use Rattle.header.specs.declared.FilmGrainParams.{FilmGrainParams}
+use Rattle.header.specs.Record.{FilmGrainParams}
 
 abbrev pub reset : FilmGrainParams
 reset =

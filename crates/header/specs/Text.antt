@@ -7,7 +7,7 @@ use lib.Dec.{ltb, eqb}
 use lib.ListN.{getD}
 use Rattle.laws.specs.Limits.{neighbourLimit, orderLimit}
 use Rattle.positions.specs.Counts.{neighbours}
-use Rattle.header.specs.declared.FilmGrainParams.{FilmGrainParams}
+use Rattle.header.specs.Record.{FilmGrainParams}
 use Rattle.header.specs.declared.counts.Counts.{Counts}
 use Rattle.header.specs.Row.{Row, limited, raised, field, bit, each}
 

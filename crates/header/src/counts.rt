@@ -1,11 +1,11 @@
 // How many places of each list the syntax has.
-use crate::Fields;
+use crate::stored::Fields;
 ghost use mathlib.Core.Path.{_≡_};
 ghost use mathlib.Core.Bool.{cond};
 ghost use Prim.Native.Nat.{_^_, _<_, _≤_, min};
 ghost use Rattle.positions.specs.Counts.{neighbours};
 ghost use Rattle.header.specs.Row.{bit};
-ghost use Rattle.header.specs.Record.{scalars};
+ghost use Rattle.header.specs.Scalars.{scalars};
 ghost use Rattle.header.specs.Text.{countsOf};
 
 // Whether the parameters themselves are coded, whether chroma's points are, and how many points and coefficients each plane has in the header.

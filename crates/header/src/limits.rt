@@ -1,18 +1,19 @@
 // Question 10: every field, and every place of an array, is as the syntax and its semantics let it be.
-use crate::Fields;
 use crate::counts::Counts;
 use crate::counts::flag;
 use crate::counts::smaller;
 use crate::counts::wide;
+use crate::stored::Fields;
+use crate::stored::list;
 ghost use mathlib.Core.Path.{_≡_};
 ghost use mathlib.Core.Bool.{cond, _&&_, _||_};
-ghost use mathlib.Core.List.{[]};
-ghost use Prim.Native.Nat.{ℕ, _-_, _<_, _≤_};
+ghost use Prim.Native.Nat.{ℕ, _+_, _-_, _*_, _<_, _≤_};
 ghost use lib.Dec.{eqb, ltb};
 ghost use lib.ListN.{length, getD};
 ghost use Rattle.header.specs.Row.{allowed};
 ghost use Rattle.header.specs.Text.{yuv420, chromaPointLimit, points, coeffs, opening, lumaPart, chromaPart, filterPart, closing, rest, countsOf, uncoded, table};
-ghost use Rattle.header.specs.Record.{params, scalars};
+ghost use Rattle.header.specs.Stored.{listAt, stored};
+ghost use Rattle.header.specs.Scalars.{fieldsOf, recordOf, scalars};
 ghost use Rattle.header.specs.Bits.{allAllowed};
 
 // Within its limits where it is present, 0 where it is skipped.
@@ -52,15 +53,12 @@ fn points_of<'a>(n: usize, values: &'a [u8], scalings: &'a [u8]) -> bool
     ok
 }
 
-// The same. Without points the loop has a known length, and is a few packed comparisons.
-fn points_allowed<'a>(n: usize, values: &'a [u8], scalings: &'a [u8]) -> bool
-    requires { ⌜ length (now scalings) ≡ length (now values) ⌝ }
-    ensures { λ r. ⌜ r ≡ allAllowed (points (length (now (values .entry))) n (now (values .entry)) (now (scalings .entry))) ⌝ }
+// The same of a record: so many places of values from byte `at` on, and as many of scalings after them.
+fn points_allowed(p: &[u8; 168], at: usize, places: usize, n: usize) -> bool
+    requires { ⌜ at + 2 * places ≤ 168 ⌝ }
+    ensures { λ r. ⌜ r ≡ allAllowed (points places n (listAt (now (p .entry)) at places) (listAt (now (p .entry)) (at + places) places)) ⌝ }
 {
-    if n == 0 {
-        return points_of(0, values, scalings);
-    }
-    points_of(n, values, scalings)
+    points_of(n, list(p, at, places), list(p, at + places, places))
 }
 
 // A plane's coefficients: zeros after the first n.
@@ -74,14 +72,12 @@ fn coeffs_of(n: usize, values: &[u8]) -> bool
     ok
 }
 
-// The same, as with points.
-fn coeffs_allowed(n: usize, values: &[u8]) -> bool
-    ensures { λ r. ⌜ r ≡ allAllowed (coeffs (length (now (values .entry))) n (now (values .entry))) ⌝ }
+// The same of a record: so many places from byte `at` on.
+fn coeffs_allowed(p: &[u8; 168], at: usize, places: usize, n: usize) -> bool
+    requires { ⌜ at + places ≤ 168 ⌝ }
+    ensures { λ r. ⌜ r ≡ allAllowed (coeffs places n (listAt (now (p .entry)) at places)) ⌝ }
 {
-    if n == 0 {
-        return coeffs_of(0, values);
-    }
-    coeffs_of(n, values)
+    coeffs_of(n, list(p, at, places))
 }
 
 fn opening_allowed(f: Fields, inter: bool) -> bool
@@ -98,11 +94,10 @@ fn opening_allowed(f: Fields, inter: bool) -> bool
                 )))
 }
 
-fn luma_allowed<'a>(f: Fields, c: Counts, yvalues: &'a [u8; 14], yscalings: &'a [u8; 14]) -> bool
-    ensures { λ r. ⌜ r ≡ allAllowed (lumaPart (params f (now (yvalues .entry)) (now (yscalings .entry)) [] [] [] [] [] [] []) c) ⌝ }
+fn luma_allowed(p: &[u8; 168], f: Fields, c: Counts) -> bool
+    ensures { λ r. ⌜ r ≡ allAllowed (lumaPart (recordOf f (now (p .entry))) c) ⌝ }
 {
-    is_allowed(c.coded, 0, 14, wide(f.num_y_points))
-        & points_allowed(c.y_points, yvalues, yscalings)
+    is_allowed(c.coded, 0, 14, wide(f.num_y_points)) & points_allowed(p, 7, 14, c.y_points)
 }
 
 // In 4:2:0 Cr has no points where Cb has none.
@@ -116,16 +111,8 @@ fn most_cr_points(format: u8, cb_points: usize) -> u32
     }
 }
 
-fn chroma_allowed<'a>(
-    f: Fields,
-    format: u8,
-    c: Counts,
-    cbvalues: &'a [u8; 10],
-    cbscalings: &'a [u8; 10],
-    crvalues: &'a [u8; 10],
-    crscalings: &'a [u8; 10],
-) -> bool
-    ensures { λ r. ⌜ r ≡ allAllowed (chromaPart (params f [] [] (now (cbvalues .entry)) (now (cbscalings .entry)) (now (crvalues .entry)) (now (crscalings .entry)) [] [] []) format c) ⌝ }
+fn chroma_allowed(p: &[u8; 168], f: Fields, format: u8, c: Counts) -> bool
+    ensures { λ r. ⌜ r ≡ allAllowed (chromaPart (recordOf f (now (p .entry))) format c) ⌝ }
 {
     let least = flag((format == 1) & (0 < c.cb_points));
     let most = most_cr_points(format, c.cb_points);
@@ -136,24 +123,19 @@ fn chroma_allowed<'a>(
         flag(f.chroma_scaling_from_luma),
     )
         & (is_allowed(c.chroma, 0, 10, wide(f.num_cb_points))
-            & (points_allowed(c.cb_points, cbvalues, cbscalings)
+            & (points_allowed(p, 37, 10, c.cb_points)
                 & (is_allowed(c.chroma, least, most, wide(f.num_cr_points))
-                    & points_allowed(c.cr_points, crvalues, crscalings))))
+                    & points_allowed(p, 58, 10, c.cr_points))))
 }
 
-fn filter_allowed<'a>(
-    f: Fields,
-    c: Counts,
-    ycoeffs: &'a [u8; 24],
-    cbcoeffs: &'a [u8; 25],
-    crcoeffs: &'a [u8; 25],
-) -> bool
-    ensures { λ r. ⌜ r ≡ allAllowed (filterPart (params f [] [] [] [] [] [] (now (ycoeffs .entry)) (now (cbcoeffs .entry)) (now (crcoeffs .entry))) c) ⌝ }
+fn filter_allowed(p: &[u8; 168], f: Fields, c: Counts) -> bool
+    ensures { λ r. ⌜ r ≡ allAllowed (filterPart (recordOf f (now (p .entry))) c) ⌝ }
 {
     is_allowed(c.coded, 8, 11, wide(f.grain_scaling))
         & (is_allowed(c.coded, 0, 3, wide(f.ar_coeff_lag))
-            & (coeffs_allowed(c.y_coeffs, ycoeffs)
-                & (coeffs_allowed(c.cb_coeffs, cbcoeffs) & coeffs_allowed(c.cr_coeffs, crcoeffs))))
+            & (coeffs_allowed(p, 80, 24, c.y_coeffs)
+                & (coeffs_allowed(p, 104, 25, c.cb_coeffs)
+                    & coeffs_allowed(p, 129, 25, c.cr_coeffs))))
 }
 
 // A plane's multipliers and offset.
@@ -178,107 +160,32 @@ fn closing_allowed(f: Fields, c: Counts) -> bool
                         & is_allowed(c.coded, 0, 1, flag(f.clip_to_restricted_range))))))
 }
 
-// Where the parameters aren't coded, every field after the slot is 0.
-fn rest_skipped<'a>(
-    f: Fields,
-    yvalues: &'a [u8; 14],
-    yscalings: &'a [u8; 14],
-    cbvalues: &'a [u8; 10],
-    cbscalings: &'a [u8; 10],
-    crvalues: &'a [u8; 10],
-    crscalings: &'a [u8; 10],
-    ycoeffs: &'a [u8; 24],
-    cbcoeffs: &'a [u8; 25],
-    crcoeffs: &'a [u8; 25],
-) -> bool
-    ensures { λ r. ⌜ ((format : ℕ) → r ≡ allAllowed (rest (params f (now (yvalues .entry)) (now (yscalings .entry)) (now (cbvalues .entry)) (now (cbscalings .entry)) (now (crvalues .entry)) (now (crscalings .entry)) (now (ycoeffs .entry)) (now (cbcoeffs .entry)) (now (crcoeffs .entry))) format uncoded)) ⌝ }
+// Where the parameters aren't coded, every field after the slot is 0: bytes 6 to 165.
+fn rest_skipped(p: &[u8; 168]) -> bool
+    ensures { λ r. ⌜ ((format : ℕ) → r ≡ allAllowed (rest (stored (now (p .entry))) format uncoded)) ⌝ }
 {
-    let luma = (f.num_y_points == 0) & points_allowed(0, yvalues, yscalings);
-    let cb_points = points_allowed(0, cbvalues, cbscalings);
-    let cr_points = points_allowed(0, crvalues, crscalings);
-    let chroma = !f.chroma_scaling_from_luma
-        & ((f.num_cb_points == 0) & (cb_points & ((f.num_cr_points == 0) & cr_points)));
-    let y_coeffs = coeffs_allowed(0, ycoeffs);
-    let cb_coeffs = coeffs_allowed(0, cbcoeffs);
-    let cr_coeffs = coeffs_allowed(0, crcoeffs);
-    let filter = (f.grain_scaling == 0)
-        & ((f.ar_coeff_lag == 0) & (y_coeffs & (cb_coeffs & cr_coeffs)));
-    let cb = (f.cb_mult == 0) & ((f.cb_luma_mult == 0) & (f.cb_offset == 0));
-    let cr = (f.cr_mult == 0) & ((f.cr_luma_mult == 0) & (f.cr_offset == 0));
-    let closing = (f.ar_coeff_shift == 0)
-        & ((f.grain_scale_shift == 0)
-            & (cb & (cr & (!f.overlap_flag & !f.clip_to_restricted_range))));
-    luma & (chroma & (filter & closing))
+    let mut ok = true;
+    for i in 6..166 {
+        ok = ok & (p[i] == 0);
+    }
+    ok
 }
 
 // All after the slot.
-fn rest_allowed<'a>(
-    f: Fields,
-    format: u8,
-    c: Counts,
-    yvalues: &'a [u8; 14],
-    yscalings: &'a [u8; 14],
-    cbvalues: &'a [u8; 10],
-    cbscalings: &'a [u8; 10],
-    crvalues: &'a [u8; 10],
-    crscalings: &'a [u8; 10],
-    ycoeffs: &'a [u8; 24],
-    cbcoeffs: &'a [u8; 25],
-    crcoeffs: &'a [u8; 25],
-) -> bool
-    requires { ⌜ c ≡ countsOf (scalars f) format ⌝ }
-    ensures { λ r. ⌜ r ≡ allAllowed (rest (params f (now (yvalues .entry)) (now (yscalings .entry)) (now (cbvalues .entry)) (now (cbscalings .entry)) (now (crvalues .entry)) (now (crscalings .entry)) (now (ycoeffs .entry)) (now (cbcoeffs .entry)) (now (crcoeffs .entry))) format c) ⌝ }
+fn rest_allowed(p: &[u8; 168], f: Fields, format: u8, c: Counts) -> bool
+    requires { ⌜ (f ≡ fieldsOf (now p)) × (c ≡ countsOf (scalars f) format) ⌝ }
+    ensures { λ r. ⌜ r ≡ allAllowed (rest (recordOf f (now (p .entry))) format c) ⌝ }
 {
     if !c.coded {
-        return rest_skipped(
-            f,
-            yvalues,
-            yscalings,
-            cbvalues,
-            cbscalings,
-            crvalues,
-            crscalings,
-            ycoeffs,
-            cbcoeffs,
-            crcoeffs,
-        );
+        return rest_skipped(p);
     }
-    luma_allowed(f, c, yvalues, yscalings)
-        & (chroma_allowed(f, format, c, cbvalues, cbscalings, crvalues, crscalings)
-            & (filter_allowed(f, c, ycoeffs, cbcoeffs, crcoeffs) & closing_allowed(f, c)))
+    luma_allowed(p, f, c)
+        & (chroma_allowed(p, f, format, c) & (filter_allowed(p, f, c) & closing_allowed(f, c)))
 }
 
-pub fn fields_allowed<'a>(
-    f: Fields,
-    inter: bool,
-    format: u8,
-    c: Counts,
-    yvalues: &'a [u8; 14],
-    yscalings: &'a [u8; 14],
-    cbvalues: &'a [u8; 10],
-    cbscalings: &'a [u8; 10],
-    crvalues: &'a [u8; 10],
-    crscalings: &'a [u8; 10],
-    ycoeffs: &'a [u8; 24],
-    cbcoeffs: &'a [u8; 25],
-    crcoeffs: &'a [u8; 25],
-) -> bool
-    requires { ⌜ c ≡ countsOf (scalars f) format ⌝ }
-    ensures { λ r. ⌜ r ≡ allAllowed (table (params f (now (yvalues .entry)) (now (yscalings .entry)) (now (cbvalues .entry)) (now (cbscalings .entry)) (now (crvalues .entry)) (now (crscalings .entry)) (now (ycoeffs .entry)) (now (cbcoeffs .entry)) (now (crcoeffs .entry))) inter format c) ⌝ }
+pub fn fields_allowed(p: &[u8; 168], f: Fields, inter: bool, format: u8, c: Counts) -> bool
+    requires { ⌜ (f ≡ fieldsOf (now p)) × (c ≡ countsOf (scalars f) format) ⌝ }
+    ensures { λ r. ⌜ r ≡ allAllowed (table (recordOf f (now (p .entry))) inter format c) ⌝ }
 {
-    opening_allowed(f, inter)
-        & rest_allowed(
-            f,
-            format,
-            c,
-            yvalues,
-            yscalings,
-            cbvalues,
-            cbscalings,
-            crvalues,
-            crscalings,
-            ycoeffs,
-            cbcoeffs,
-            crcoeffs,
-        )
+    opening_allowed(f, inter) & rest_allowed(p, f, format, c)
 }

@@ -1,11 +1,11 @@
 // How many bits a header has.
-use crate::Fields;
 use crate::counts::Counts;
 use crate::counts::kept;
 use crate::counts::smaller;
+use crate::stored::Fields;
 ghost use mathlib.Core.Path.{_≡_};
 ghost use Prim.Native.Nat.{_<_};
-ghost use Rattle.header.specs.Record.{scalars};
+ghost use Rattle.header.specs.Scalars.{scalars};
 ghost use Rattle.header.specs.Text.{countsOf};
 ghost use Rattle.header.specs.Size.{openingSize, sizeOf};
 

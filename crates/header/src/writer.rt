@@ -1,5 +1,4 @@
 // The fields' bits in stream order.
-use crate::Fields;
 use crate::bits::Cursor;
 use crate::bits::put;
 use crate::bits::put_byte;
@@ -7,13 +6,15 @@ use crate::counts::Counts;
 use crate::counts::flag;
 use crate::counts::smaller;
 use crate::counts::wide;
+use crate::stored::Fields;
+use crate::stored::list;
 ghost use mathlib.Core.Path.{_≡_};
 ghost use mathlib.Core.Bool.{cond};
-ghost use mathlib.Core.List.{[]};
 ghost use Prim.Native.Nat.{_+_, _-_, _*_, _^_, _<_, _≤_};
 ghost use lib.ListN.{length};
 ghost use Rattle.header.specs.Text.{points, coeffs, opening, lumaPart, chromaPart, filterPart, closing, countsOf, rest, table};
-ghost use Rattle.header.specs.Record.{params, scalars};
+ghost use Rattle.header.specs.Stored.{listAt};
+ghost use Rattle.header.specs.Scalars.{recordOf, scalars};
 ghost use Rattle.header.specs.Bits.{digits, bitsOf, packed};
 ghost use Rattle.header.specs.Held.{Ready, Put, mixBits};
 
@@ -50,7 +51,7 @@ fn code_of(stored: u8, off: u32) -> u32
 }
 
 // A plane's points, value and scaling in turn.
-fn put_points<'a>(
+fn put_points_of<'a>(
     dst: &mut [u8],
     w: Cursor,
     n: usize,
@@ -68,8 +69,29 @@ fn put_points<'a>(
     a
 }
 
+// The same of a record: so many places of values from byte `from` on, and as many of scalings after them.
+fn put_points(
+    dst: &mut [u8],
+    w: Cursor,
+    p: &[u8; 168],
+    from: usize,
+    places: usize,
+    n: usize,
+) -> Cursor
+    requires { ⌜ Ready w × (from + 2 * places ≤ 168) × (w .at + 2 * places < 2 ^ 32) ⌝ }
+    ensures { λ r. ⌜ Put (bitsOf (points places n (listAt (now (p .entry)) from places) (listAt (now (p .entry)) (from + places) places))) w (now (dst .entry)) r (now (dst .exit)) × Ready r × (r .at ≤ w .at + 2 * places) ⌝ }
+{
+    put_points_of(
+        dst,
+        w,
+        n,
+        list(p, from, places),
+        list(p, from + places, places),
+    )
+}
+
 // A plane's coefficients.
-fn put_coeffs(dst: &mut [u8], w: Cursor, n: usize, values: &[u8]) -> Cursor
+fn put_coeffs_of(dst: &mut [u8], w: Cursor, n: usize, values: &[u8]) -> Cursor
     requires { ⌜ Ready w × (w .at + length (now values) < 2 ^ 32) ⌝ }
     ensures { λ r. ⌜ Put (bitsOf (coeffs (length (now (values .entry))) n (now (values .entry)))) w (now (dst .entry)) r (now (dst .exit)) × Ready r × (r .at ≤ w .at + length (now (values .entry))) ⌝ }
 {
@@ -78,6 +100,21 @@ fn put_coeffs(dst: &mut [u8], w: Cursor, n: usize, values: &[u8]) -> Cursor
         a = put_byte(dst, a, values[i]);
     }
     a
+}
+
+// The same of a record: so many places from byte `from` on.
+fn put_coeffs(
+    dst: &mut [u8],
+    w: Cursor,
+    p: &[u8; 168],
+    from: usize,
+    places: usize,
+    n: usize,
+) -> Cursor
+    requires { ⌜ Ready w × (from + places ≤ 168) × (w .at + places < 2 ^ 32) ⌝ }
+    ensures { λ r. ⌜ Put (bitsOf (coeffs places n (listAt (now (p .entry)) from places))) w (now (dst .entry)) r (now (dst .exit)) × Ready r × (r .at ≤ w .at + places) ⌝ }
+{
+    put_coeffs_of(dst, w, n, list(p, from, places))
 }
 
 fn put_opening(dst: &mut [u8], w: Cursor, f: Fields, inter: bool) -> Cursor
@@ -96,60 +133,35 @@ fn put_opening(dst: &mut [u8], w: Cursor, f: Fields, inter: bool) -> Cursor
     )
 }
 
-fn put_luma<'a>(
-    dst: &mut [u8],
-    w: Cursor,
-    f: Fields,
-    c: Counts,
-    yvalues: &'a [u8; 14],
-    yscalings: &'a [u8; 14],
-) -> Cursor
+fn put_luma(dst: &mut [u8], w: Cursor, p: &[u8; 168], f: Fields, c: Counts) -> Cursor
     requires { ⌜ Ready w × (w .at + 29 < 2 ^ 32) ⌝ }
-    ensures { λ r. ⌜ Put (bitsOf (lumaPart (params f (now (yvalues .entry)) (now (yscalings .entry)) [] [] [] [] [] [] []) c)) w (now (dst .entry)) r (now (dst .exit)) × Ready r × (r .at ≤ w .at + 29) ⌝ }
+    ensures { λ r. ⌜ Put (bitsOf (lumaPart (recordOf f (now (p .entry))) c)) w (now (dst .entry)) r (now (dst .exit)) × Ready r × (r .at ≤ w .at + 29) ⌝ }
 {
     let a = put_field(dst, w, c.coded, 4, wide(f.num_y_points));
-    put_points(dst, a, c.y_points, yvalues, yscalings)
+    put_points(dst, a, p, 7, 14, c.y_points)
 }
 
-fn put_chroma<'a>(
-    dst: &mut [u8],
-    w: Cursor,
-    f: Fields,
-    format: u8,
-    c: Counts,
-    cbvalues: &'a [u8; 10],
-    cbscalings: &'a [u8; 10],
-    crvalues: &'a [u8; 10],
-    crscalings: &'a [u8; 10],
-) -> Cursor
+fn put_chroma(dst: &mut [u8], w: Cursor, p: &[u8; 168], f: Fields, format: u8, c: Counts) -> Cursor
     requires { ⌜ Ready w × (w .at + 43 < 2 ^ 32) ⌝ }
-    ensures { λ r. ⌜ Put (bitsOf (chromaPart (params f [] [] (now (cbvalues .entry)) (now (cbscalings .entry)) (now (crvalues .entry)) (now (crscalings .entry)) [] [] []) format c)) w (now (dst .entry)) r (now (dst .exit)) × Ready r × (r .at ≤ w .at + 43) ⌝ }
+    ensures { λ r. ⌜ Put (bitsOf (chromaPart (recordOf f (now (p .entry))) format c)) w (now (dst .entry)) r (now (dst .exit)) × Ready r × (r .at ≤ w .at + 43) ⌝ }
 {
     let from_luma = flag(f.chroma_scaling_from_luma);
     let a = put_field(dst, w, c.coded & !(format == 0), 1, from_luma);
     let b = put_field(dst, a, c.chroma, 4, wide(f.num_cb_points));
-    let d = put_points(dst, b, c.cb_points, cbvalues, cbscalings);
+    let d = put_points(dst, b, p, 37, 10, c.cb_points);
     let e = put_field(dst, d, c.chroma, 4, wide(f.num_cr_points));
-    put_points(dst, e, c.cr_points, crvalues, crscalings)
+    put_points(dst, e, p, 58, 10, c.cr_points)
 }
 
-fn put_filter<'a>(
-    dst: &mut [u8],
-    w: Cursor,
-    f: Fields,
-    c: Counts,
-    ycoeffs: &'a [u8; 24],
-    cbcoeffs: &'a [u8; 25],
-    crcoeffs: &'a [u8; 25],
-) -> Cursor
+fn put_filter(dst: &mut [u8], w: Cursor, p: &[u8; 168], f: Fields, c: Counts) -> Cursor
     requires { ⌜ Ready w × (w .at + 76 < 2 ^ 32) ⌝ }
-    ensures { λ r. ⌜ Put (bitsOf (filterPart (params f [] [] [] [] [] [] (now (ycoeffs .entry)) (now (cbcoeffs .entry)) (now (crcoeffs .entry))) c)) w (now (dst .entry)) r (now (dst .exit)) × Ready r × (r .at ≤ w .at + 76) ⌝ }
+    ensures { λ r. ⌜ Put (bitsOf (filterPart (recordOf f (now (p .entry))) c)) w (now (dst .entry)) r (now (dst .exit)) × Ready r × (r .at ≤ w .at + 76) ⌝ }
 {
     let a = put_field(dst, w, c.coded, 2, code_of(f.grain_scaling, 8));
     let b = put_field(dst, a, c.coded, 2, wide(f.ar_coeff_lag));
-    let d = put_coeffs(dst, b, c.y_coeffs, ycoeffs);
-    let e = put_coeffs(dst, d, c.cb_coeffs, cbcoeffs);
-    put_coeffs(dst, e, c.cr_coeffs, crcoeffs)
+    let d = put_coeffs(dst, b, p, 80, 24, c.y_coeffs);
+    let e = put_coeffs(dst, d, p, 104, 25, c.cb_coeffs);
+    put_coeffs(dst, e, p, 129, 25, c.cr_coeffs)
 }
 
 // A plane's multipliers and offset.
@@ -189,63 +201,23 @@ fn put_closing(dst: &mut [u8], w: Cursor, f: Fields, c: Counts) -> Cursor
 }
 
 // All after the slot.
-fn put_rest<'a>(
-    dst: &mut [u8],
-    w: Cursor,
-    f: Fields,
-    format: u8,
-    c: Counts,
-    yvalues: &'a [u8; 14],
-    yscalings: &'a [u8; 14],
-    cbvalues: &'a [u8; 10],
-    cbscalings: &'a [u8; 10],
-    crvalues: &'a [u8; 10],
-    crscalings: &'a [u8; 10],
-    ycoeffs: &'a [u8; 24],
-    cbcoeffs: &'a [u8; 25],
-    crcoeffs: &'a [u8; 25],
-) -> Cursor
+fn put_rest(dst: &mut [u8], w: Cursor, p: &[u8; 168], f: Fields, format: u8, c: Counts) -> Cursor
     requires { ⌜ Ready w × (c ≡ countsOf (scalars f) format) × (w .at + 160 < 2 ^ 32) ⌝ }
-    ensures { λ r. ⌜ Put (bitsOf (rest (params f (now (yvalues .entry)) (now (yscalings .entry)) (now (cbvalues .entry)) (now (cbscalings .entry)) (now (crvalues .entry)) (now (crscalings .entry)) (now (ycoeffs .entry)) (now (cbcoeffs .entry)) (now (crcoeffs .entry))) format c)) w (now (dst .entry)) r (now (dst .exit)) × Ready r × (r .at ≤ w .at + 160) ⌝ }
+    ensures { λ r. ⌜ Put (bitsOf (rest (recordOf f (now (p .entry))) format c)) w (now (dst .entry)) r (now (dst .exit)) × Ready r × (r .at ≤ w .at + 160) ⌝ }
 {
     if !c.coded {
         return w;
     }
-    let a = put_luma(dst, w, f, c, yvalues, yscalings);
-    let b = put_chroma(
-        dst,
-        a,
-        f,
-        format,
-        c,
-        cbvalues,
-        cbscalings,
-        crvalues,
-        crscalings,
-    );
-    let d = put_filter(dst, b, f, c, ycoeffs, cbcoeffs, crcoeffs);
+    let a = put_luma(dst, w, p, f, c);
+    let b = put_chroma(dst, a, p, f, format, c);
+    let d = put_filter(dst, b, p, f, c);
     put_closing(dst, d, f, c)
 }
 
 // All bits, and zeros to the end of the last byte.
-pub fn put_header<'a>(
-    dst: &mut [u8],
-    f: Fields,
-    inter: bool,
-    format: u8,
-    c: Counts,
-    yvalues: &'a [u8; 14],
-    yscalings: &'a [u8; 14],
-    cbvalues: &'a [u8; 10],
-    cbscalings: &'a [u8; 10],
-    crvalues: &'a [u8; 10],
-    crscalings: &'a [u8; 10],
-    ycoeffs: &'a [u8; 24],
-    cbcoeffs: &'a [u8; 25],
-    crcoeffs: &'a [u8; 25],
-)
+pub fn put_header(dst: &mut [u8], p: &[u8; 168], f: Fields, inter: bool, format: u8, c: Counts)
     requires { ⌜ c ≡ countsOf (scalars f) format ⌝ }
-    ensures { λ _. ⌜ now (dst .exit) ≡ packed (bitsOf (table (params f (now (yvalues .entry)) (now (yscalings .entry)) (now (cbvalues .entry)) (now (cbscalings .entry)) (now (crvalues .entry)) (now (crscalings .entry)) (now (ycoeffs .entry)) (now (cbcoeffs .entry)) (now (crcoeffs .entry))) inter format c)) (now (dst .entry)) ⌝ }
+    ensures { λ _. ⌜ now (dst .exit) ≡ packed (bitsOf (table (recordOf f (now (p .entry))) inter format c)) (now (dst .entry)) ⌝ }
 {
     let w = Cursor {
         at: 0,
@@ -253,21 +225,6 @@ pub fn put_header<'a>(
         pending: 0,
     };
     let a = put_opening(dst, w, f, inter);
-    let b = put_rest(
-        dst,
-        a,
-        f,
-        format,
-        c,
-        yvalues,
-        yscalings,
-        cbvalues,
-        cbscalings,
-        crvalues,
-        crscalings,
-        ycoeffs,
-        cbcoeffs,
-        crcoeffs,
-    );
+    let b = put_rest(dst, a, p, f, format, c);
     put(dst, b, (8 - b.count) % 8, 0);
 }

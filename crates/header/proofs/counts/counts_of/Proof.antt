@@ -2,7 +2,7 @@
 use mathlib.Core.Path.{sym}
 use borrow.Author.Tests.{not-true}
 use borrow.Author.Needs.{needs}
-use Rattle.header.specs.Record.{scalars}
+use Rattle.header.specs.Scalars.{scalars}
 use Rattle.header.specs.Text.{countsOf}
 use Rattle.header.proofs.Short.{nothing}
 use Rattle.header.proofs.counts.counts_of.Statement.{statement}

@@ -1,16 +1,15 @@
--- `header::limits::coeffs_allowed`: by whether there are any. Assumes nothing.
+-- `header::limits::coeffs_allowed`: the list of the record. Assumes nothing.
 use borrow.Author.Needs.{needs}
 use Rattle.header.proofs.limits.coeffs_allowed.Statement.{statement}
 use Rattle.header.proofs.limits.coeffs_allowed.Tie as tie
 
 returns : tie.Need-returns
-returns c = rw (c .before .if1 .taken) (c .coeffs-of .ensures)
+returns c = rw (c .coeffs-of .ensures, c .before .list .ensures .1, c .before .list .ensures .0)
 
 pub coeffs-allowed-spec : {M : Type 1} → statement M
 coeffs-allowed-spec =
     tie.close
     (tie.spec
     (λ c κs. search needs)
-    returns
     (λ c κs. search needs)
-    (λ c. search needs))
+    returns)

@@ -1,6 +1,6 @@
 -- `header::limits::fields_allowed`: the first part, and the rest. Assumes nothing.
 use borrow.Author.Needs.{needs}
-use Rattle.header.specs.Record.{params}
+use Rattle.header.specs.Scalars.{recordOf}
 use Rattle.header.specs.Text.{opening, rest, table}
 use Rattle.header.proofs.Folds.{allowed-append}
 use Rattle.header.proofs.limits.fields_allowed.Statement.{statement}
@@ -10,11 +10,8 @@ returns : tie.Need-returns
 unfolding opening table
 returns c =
     let A = c .before .before .args in
-    rw (
-      c .rest-allowed .ensures,
-      c .before .opening-allowed .ensures,
-      allowed-append (opening (params (A .f) (A .yvalues .now) (A .yscalings .now) (A .cbvalues .now) (A .cbscalings .now) (A .crvalues .now) (A .crscalings .now) (A .ycoeffs .now) (A .cbcoeffs .now) (A .crcoeffs .now)) (A .inter)) (rest (params (A .f) (A .yvalues .now) (A .yscalings .now) (A .cbvalues .now) (A .cbscalings .now) (A .crvalues .now) (A .crscalings .now) (A .ycoeffs .now) (A .cbcoeffs .now) (A .crcoeffs .now)) (A .format) (A .c)),
-    )
+    let p = recordOf (A .f) (A .p .now) in
+    rw (c .rest-allowed .ensures, c .before .opening-allowed .ensures, allowed-append (opening p (A .inter)) (rest p (A .format) (A .c)))
 
 pub fields-allowed-spec : {M : Type 1} → statement M
 fields-allowed-spec =

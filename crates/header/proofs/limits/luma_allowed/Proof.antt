@@ -1,7 +1,4 @@
 -- `header::limits::luma_allowed`: the count, and the points. Assumes nothing.
-use mathlib.Core.Path.{_≡_}
-use lib.ListN.{length}
-use native.Mathlib.Omega.{arith}
 use borrow.Author.Needs.{needs}
 use Rattle.header.specs.Text.{lumaPart}
 use Rattle.header.specs.Bits.{allAllowed}
@@ -10,15 +7,7 @@ use Rattle.header.proofs.limits.luma_allowed.Tie as tie
 
 returns : tie.Need-returns
 unfolding lumaPart allAllowed
-returns c =
-    let A = c .before .before .before .before .before .args in
-    let l1 : length (A .yvalues .now) ≡ 14 = omega arith in
-    rw (
-      c .points-allowed .ensures,
-      c .before .before .before .is-allowed .ensures,
-      c .before .before .before .before .wide .ensures,
-      l1,
-    )
+returns c = rw (c .points-allowed .ensures, c .before .is-allowed .ensures, c .before .before .wide .ensures)
 
 pub luma-allowed-spec : {M : Type 1} → statement M
 luma-allowed-spec =

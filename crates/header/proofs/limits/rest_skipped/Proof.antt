@@ -1,38 +1,41 @@
--- `header::limits::rest_skipped`: each part where nothing is coded. Assumes nothing.
-use mathlib.Core.Path.{_≡_}
-use lib.ListN.{length}
+-- `header::limits::rest_skipped`: each turn asks about a byte. Assumes nothing.
+use mathlib.Core.Path.{_≡_, refl, sym, _∙_}
+use Prim.Native.Nat.{_-_, _≤_}
 use native.Mathlib.Omega.{arith}
 use borrow.Author.Needs.{needs}
-use Rattle.header.specs.Record.{params}
-use Rattle.header.proofs.Short.{rest-are}
+use Rattle.header.proofs.Short.{zeros, zeros-none, zeros-more, rest-zeros}
 use Rattle.header.proofs.limits.rest_skipped.Statement.{statement}
 use Rattle.header.proofs.limits.rest_skipped.Tie as tie
 
-returns : tie.Need-returns
+abbrev Inv-loop : tie.InvT-loop
+Inv-loop p ok₀ i₀ ok i = (6 ≤ i) × (i ≤ 166) × (ok ≡ zeros p 6 (i - 6))
+
+abbrev μ-loop : tie.MeasureT-loop
+μ-loop p ok₀ i₀ ok i = 166 - i
+
+loop-holds : tie.Need-loop-holds Inv-loop μ-loop
+loop-holds c = (omega arith, omega arith, sym (zeros-none (c .args .p .now) 6))
+
+loop-again : tie.Need-loop-again Inv-loop μ-loop
+loop-again c =
+    let L = c .before .before .loop in
+    (omega arith, omega arith, rw (zeros-more (c .before .before .before .args .p .now) (L .i) (L .inv .0), L .inv .2))
+
+returns : tie.Need-returns Inv-loop μ-loop
 returns c =
-    let A = c .before .before .before .before .before .before .before .before .before .before .before .before .before .before .before .before .before .before .before .before .before .before .before .before .before .before .before .before .before .before .before .args in
-    let l1 : length (A .yvalues .now) ≡ 14 = omega (arith, c .before .before .before .before .before .before .before .before .before .before .before .before .before .before .before .before .before .before .before .before .before .before .before .before .before .before .before .before .before .points-allowed-arg .given) in
-    let l2 : length (A .cbvalues .now) ≡ 10 = omega (arith, c .before .before .before .before .before .before .before .before .before .before .before .before .before .before .before .before .before .before .before .before .before .before .before .before .before .before .points-allowed-arg3 .given) in
-    let l3 : length (A .crvalues .now) ≡ 10 = omega (arith, c .before .before .before .before .before .before .before .before .before .before .before .before .before .before .before .before .before .before .before .before .before .before .before .points-allowed-arg5 .given) in
-    let l4 : length (A .ycoeffs .now) ≡ 24 = omega (arith, c .before .before .before .before .before .before .before .before .before .before .before .before .before .before .before .before .before .coeffs-allowed-arg .given) in
-    let l5 : length (A .cbcoeffs .now) ≡ 25 = omega (arith, c .before .before .before .before .before .before .before .before .before .before .before .before .before .before .before .coeffs-allowed-arg2 .given) in
-    let l6 : length (A .crcoeffs .now) ≡ 25 = omega (arith, c .before .before .before .before .before .before .before .before .before .before .before .before .before .coeffs-allowed-arg3 .given) in
-    rest-are (params (A .f) (A .yvalues .now) (A .yscalings .now) (A .cbvalues .now) (A .cbscalings .now) (A .crvalues .now) (A .crscalings .now) (A .ycoeffs .now) (A .cbcoeffs .now) (A .crcoeffs .now))
-    (rw l1 at (c .before .before .before .before .before .before .before .before .before .before .before .before .before .before .before .before .before .before .before .before .before .before .before .before .before .before .before .points-allowed .ensures))
-    (rw l2 at (c .before .before .before .before .before .before .before .before .before .before .before .before .before .before .before .before .before .before .before .before .before .before .before .before .points-allowed2 .ensures))
-    (rw l3 at (c .before .before .before .before .before .before .before .before .before .before .before .before .before .before .before .before .before .before .before .before .before .points-allowed3 .ensures))
-    (rw l4 at (c .before .before .before .before .before .before .before .before .before .before .before .before .before .before .before .before .coeffs-allowed .ensures))
-    (rw l5 at (c .before .before .before .before .before .before .before .before .before .before .before .before .before .before .coeffs-allowed2 .ensures))
-    (rw l6 at (c .before .before .before .before .before .before .before .before .before .before .before .before .coeffs-allowed3 .ensures))
+    let L = c .before .loop in
+    let e : L .i ≡ 166 = omega arith in
+    λ format. rw e at (L .inv .2) ∙ rest-zeros (c .before .before .args .p .now) format
 
 pub rest-skipped-spec : {M : Type 1} → statement M
 rest-skipped-spec =
     tie.close
     (tie.spec
-    (λ c κs. search needs)
-    (λ c κs. search needs)
-    (λ c κs. search needs)
-    (λ c κs. search needs)
-    (λ c κs. search needs)
-    (λ c κs. search needs)
+    Inv-loop
+    μ-loop
+    loop-holds
+    (λ c. search needs)
+    (λ c. search needs)
+    (λ c. search needs)
+    loop-again
     returns)

@@ -2,7 +2,7 @@
 use mathlib.Core.Path.{_∙_}
 use native.Mathlib.Omega.{arith}
 use borrow.Author.Needs.{needs}
-use Rattle.header.specs.Record.{scalars}
+use Rattle.header.specs.Scalars.{scalars}
 use Rattle.header.specs.Size.{sizeOf}
 use Rattle.header.proofs.Short.{uncoded-counts, uncoded-size}
 use Rattle.header.proofs.size.size_of.Statement.{statement}

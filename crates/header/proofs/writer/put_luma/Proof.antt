@@ -1,10 +1,7 @@
 -- `header::writer::put_luma`: the count, and the points. Assumes nothing.
-use mathlib.Core.Path.{_≡_}
-use lib.ListN.{length}
 use native.Mathlib.Omega.{arith}
-use mathlib.Core.List.{[]}
 use borrow.Author.Needs.{needs}
-use Rattle.header.specs.Record.{params}
+use Rattle.header.specs.Scalars.{recordOf}
 use Rattle.header.proofs.Holding.{put-then}
 use Rattle.header.proofs.Parts.{luma-bits}
 use Rattle.header.proofs.writer.put_luma.Statement.{statement}
@@ -12,11 +9,10 @@ use Rattle.header.proofs.writer.put_luma.Tie as tie
 
 returns : tie.Need-returns
 returns c =
-    let A = c .before .before .before .before .before .before .before .before .before .before .before .before .args in
-    let l1 : length (A .yvalues .now) ≡ 14 = omega arith in
-    let field = c .before .before .before .before .before .before .before .before .put-field .ensures in
+    let A = c .before .before .before .before .before .before .before .before .before .before .args in
+    let field = c .before .before .before .before .before .before .put-field .ensures in
     let points = c .before .before .put-points .ensures in
-    (rw (luma-bits (params (A .f) (A .yvalues .now) (A .yscalings .now) [] [] [] [] [] [] []) (A .c)) (put-then (rw (c .before .before .before .before .before .before .before .before .before .wide .ensures) at (field .0)) (rw (l1) at (points .0))), points .1, omega (arith, field .2, points .2, l1))
+    (rw (luma-bits (recordOf (A .f) (A .p .now)) (A .c)) (put-then (rw (c .before .before .before .before .before .before .before .wide .ensures) at (field .0)) (points .0)), points .1, omega (arith, field .2, points .2))
 
 pub put-luma-spec : {M : Type 1} → statement M
 put-luma-spec =

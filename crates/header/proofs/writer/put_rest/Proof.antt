@@ -2,7 +2,7 @@
 use mathlib.Core.Path.{sym}
 use native.Mathlib.Omega.{arith}
 use borrow.Author.Needs.{needs}
-use Rattle.header.specs.Record.{params, scalars}
+use Rattle.header.specs.Scalars.{recordOf, scalars}
 use Rattle.header.specs.Text.{lumaPart, chromaPart, filterPart, closing}
 use Rattle.header.proofs.Holding.{put-none, put-then, put-as}
 use Rattle.header.proofs.Parts.{rest-bits}
@@ -14,7 +14,7 @@ returns : tie.Need-returns
 returns c =
     let S = c .before .before .before in
     let A = S .args in
-    (rw (uncoded-counts (scalars (A .f)) (A .format) (A .c) (S .pre .1) (c .if1 .taken)) (put-as (sym (rest-none (params (A .f) (A .yvalues .now) (A .yscalings .now) (A .cbvalues .now) (A .cbscalings .now) (A .crvalues .now) (A .crscalings .now) (A .ycoeffs .now) (A .cbcoeffs .now) (A .crcoeffs .now)) (A .format))) put-none), S .pre .0, omega arith)
+    (rw (uncoded-counts (scalars (A .f)) (A .format) (A .c) (S .pre .1) (c .if1 .taken)) (put-as (sym (rest-none (recordOf (A .f) (A .p .now)) (A .format))) put-none), S .pre .0, omega arith)
 
 returns-2 : tie.Need-returns-2
 unfolding lumaPart chromaPart filterPart closing
@@ -24,7 +24,7 @@ returns-2 c =
     let b = c .before .before .before .before .before .before .before .before .before .before .put-chroma .ensures in
     let d = c .before .before .before .before .before .before .put-filter .ensures in
     let e = c .before .before .put-closing .ensures in
-    (rw (rest-bits (params (A .f) (A .yvalues .now) (A .yscalings .now) (A .cbvalues .now) (A .cbscalings .now) (A .crvalues .now) (A .crscalings .now) (A .ycoeffs .now) (A .cbcoeffs .now) (A .crcoeffs .now)) (A .c) (A .format)) (put-then (a .0) (put-then (b .0) (put-then (d .0) (e .0)))), e .1, omega (arith, a .2, b .2, d .2, e .2))
+    (rw (rest-bits (recordOf (A .f) (A .p .now)) (A .c) (A .format)) (put-then (a .0) (put-then (b .0) (put-then (d .0) (e .0)))), e .1, omega (arith, a .2, b .2, d .2, e .2))
 
 pub put-rest-spec : {M : Type 1} → statement M
 put-rest-spec =
