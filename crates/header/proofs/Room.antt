@@ -1,16 +1,21 @@
--- 154 bytes are room for every header: a destination that has them is never refused with 11. Assumes nothing.
+-- 154 bytes are room for every header, and no fewer are: of the destinations that are never refused with 11 that is the least. Assumes nothing.
+use mathlib.Core.Path.{_≡_, refl}
 use mathlib.Core.Bool.{Bool, true, false, cond}
-use mathlib.Core.Logic.{_≢_}
-use Prim.Native.Nat.{ℕ, _+_, _/_, _≤_}
+use mathlib.Core.Logic.{_≢_, _↔_}
+use Prim.Native.Nat.{ℕ, _+_, _/_, _<_, _≤_}
 use native.Mathlib.Omega.{arith}
 use lib.Dec.{leb}
 use lib.ListN.{length}
-use borrow.Author.Tests.{le-leb}
+use borrow.Author.Tests.{leb-true, leb-false, le-leb, lt-leb}
 use Rattle.header.specs.Record.{FilmGrainParams}
-use Rattle.header.specs.Text.{rows}
-use Rattle.header.specs.Bits.{allAllowed}
+use Rattle.header.specs.Row.{each, width, code, allowed}
+use Rattle.header.specs.Text.{countsOf, point, points, coeff, coeffs, opening, lumaPart, chromaPart, filterPart, closing, table, rows}
+use Rattle.header.specs.Bits.{digits, bitsOf, allAllowed}
 use Rattle.header.specs.Calls.{headerBits, writeRefusal}
+use Rattle.header.specs.Room.{mostBits, mostBytes, Enough, largest}
 use Rattle.header.proofs.Sizes.{most-bits}
+
+-- ---- enough
 
 -- the first two questions refuse with 4 and with 10
 not-eleven : (format fields : Bool) → _≢_ {A = ℕ} (cond format (cond fields 0 10) 4) 11
@@ -18,8 +23,29 @@ not-eleven true true e = omega arith
 not-eleven true false e = omega arith
 not-eleven false fields e = omega arith
 
-pub room-enough : (p : FilmGrainParams) (inter : Bool) (format room : ℕ) → 154 ≤ room → writeRefusal p inter format room ≢ 11
+enough : (room : ℕ) → mostBytes ≤ room → Enough room
 unfolding writeRefusal
-room-enough p inter format room h =
-    let enough : (length (headerBits p inter format) + 7) / 8 ≤ room = omega (arith, most-bits p inter format) in
-    rw (le-leb ((length (headerBits p inter format) + 7) / 8) room enough) (not-eleven (leb format 3) (allAllowed (rows p inter format)))
+enough room h p inter format =
+    let fits : (length (headerBits p inter format) + 7) / 8 ≤ room = omega (arith, most-bits p inter format) in
+    rw (le-leb ((length (headerBits p inter format) + 7) / 8) room fits) (not-eleven (leb format 3) (allAllowed (rows p inter format)))
+
+-- ---- and no fewer
+
+largest-allowed : allAllowed (rows largest true 1) ≡ true
+unfolding largest rows table countsOf opening lumaPart chromaPart filterPart closing points point coeffs coeff each allAllowed allowed
+largest-allowed = refl
+
+pub largest-bits : length (headerBits largest true 1) ≡ mostBits
+unfolding largest headerBits rows table countsOf opening lumaPart chromaPart filterPart closing points point coeffs coeff each bitsOf width code digits
+largest-bits = refl
+
+too-few : (room : ℕ) → room < mostBytes → writeRefusal largest true 1 room ≡ 11
+unfolding writeRefusal
+too-few room h = rw (largest-allowed, largest-bits, lt-leb mostBytes room h)
+
+pub enough-exactly : (room : ℕ) → Enough room ↔ (mostBytes ≤ room)
+enough-exactly room = (λ e. go (leb mostBytes room) refl e, enough room)
+  where
+    go : (t : Bool) → leb mostBytes room ≡ t → Enough room → mostBytes ≤ room
+    go true q e = leb-true mostBytes room q
+    go false q e = absurd (e largest true 1 (too-few room (leb-false mostBytes room q)))

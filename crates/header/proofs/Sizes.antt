@@ -14,7 +14,8 @@ use Rattle.header.specs.declared.counts.Counts.{Counts}
 use Rattle.header.specs.Row.{Row, each, width, code}
 use Rattle.header.specs.Text.{lumaPointLimit, chromaPointLimit, monochrome, coded, countsOf, point, points, coeff, coeffs, opening, lumaPart, chromaPart, filterPart, closing, table, rows}
 use Rattle.header.specs.Bits.{digits, bitsOf}
-use Rattle.header.specs.Size.{mostBits, openingSize, sizeOf}
+use Rattle.header.specs.Room.{mostBits}
+use Rattle.header.specs.Size.{openingSize, sizeOf}
 use Rattle.header.specs.Calls.{headerBits}
 use Rattle.header.proofs.Numbers.{digits-length}
 use Rattle.header.proofs.Folds.{bits-append}

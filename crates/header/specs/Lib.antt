@@ -4,13 +4,14 @@ pub mod Stored
 pub mod Row
 pub mod Text
 pub mod Bits
-pub mod Reset
-pub mod Size
 pub mod Calls
 -- what only contracts of the parts use
 pub mod Scalars
+pub mod Size
 pub mod Held
 -- what theorems say
+pub mod Reset
 pub mod Fits
 pub mod Allowed
 pub mod Semantics
+pub mod Room

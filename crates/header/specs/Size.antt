@@ -7,10 +7,6 @@ use Rattle.header.specs.Record.{FilmGrainParams}
 use Rattle.header.specs.declared.counts.Counts.{Counts}
 use Rattle.header.specs.Text.{lumaPointLimit, chromaPointLimit, monochrome}
 
--- the most bits that a header has
-abbrev pub mostBits : ℕ
-mostBits = 1227
-
 -- apply_grain, grain_seed, update_grain, the slot
 unfoldable pub openingSize : FilmGrainParams → Bool → ℕ
 openingSize p inter =
