@@ -8,6 +8,7 @@ pub mod Lists
 pub mod Parts
 pub mod Sizes
 pub mod Short
+pub mod Bytes
 pub mod Answers
 -- what holds of a header
 pub mod Places

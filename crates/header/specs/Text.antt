@@ -6,7 +6,7 @@ use Prim.Native.Nat.{ℕ, _+_, _-_}
 use lib.Dec.{ltb, eqb}
 use lib.ListN.{getD}
 use Rattle.laws.specs.Limits.{neighbourLimit, orderLimit}
-use Rattle.positions.specs.Counts.{neighbours}
+use Rattle.positions.specs.Text.{numPosLuma, numPosChroma}
 use Rattle.header.specs.Record.{FilmGrainParams}
 use Rattle.header.specs.declared.counts.Counts.{Counts}
 use Rattle.header.specs.Row.{Row, limited, raised, field, bit, each}
@@ -46,16 +46,12 @@ cbPoints p format = cond (chroma p format) (p .«num_cb_points») 0
 abbrev pub crPoints : FilmGrainParams → ℕ → ℕ
 crPoints p format = cond (chroma p format) (p .«num_cr_points») 0
 
--- "numPosLuma = 2 × lag × (lag + 1)"; "numPosChroma is numPosLuma + 1 where num_y_points is above 0, else numPosLuma"
-abbrev pub numPosLuma : FilmGrainParams → ℕ
-numPosLuma p = neighbours (p .«ar_coeff_lag»)
+-- "num_y_points above 0"; "chroma_scaling_from_luma or num_cb_points above 0", and the same of Cr
+abbrev pub lumaCoeffs : FilmGrainParams → ℕ
+lumaCoeffs p = cond (ltb 0 (yPoints p)) (numPosLuma (p .«ar_coeff_lag»)) 0
 
-abbrev pub numPosChroma : FilmGrainParams → ℕ
-numPosChroma p = numPosLuma p + bit (ltb 0 (yPoints p))
-
--- "chroma_scaling_from_luma or num_cb_points above 0", and the same of Cr
 abbrev pub chromaCoeffs : FilmGrainParams → ℕ → ℕ
-chromaCoeffs p points = cond (coded p && p .«chroma_scaling_from_luma» || ltb 0 points) (numPosChroma p) 0
+chromaCoeffs p points = cond (coded p && p .«chroma_scaling_from_luma» || ltb 0 points) (numPosChroma (yPoints p) (p .«ar_coeff_lag»)) 0
 
 unfoldable pub countsOf : FilmGrainParams → ℕ → Counts
 countsOf p format =
@@ -65,7 +61,7 @@ countsOf p format =
       «y_points» = yPoints p;
       «cb_points» = cbPoints p format;
       «cr_points» = crPoints p format;
-      «y_coeffs» = cond (ltb 0 (yPoints p)) (numPosLuma p) 0;
+      «y_coeffs» = lumaCoeffs p;
       «cb_coeffs» = chromaCoeffs p (cbPoints p format);
       «cr_coeffs» = chromaCoeffs p (crPoints p format);
     }

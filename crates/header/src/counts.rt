@@ -3,7 +3,7 @@ use crate::stored::Fields;
 ghost use mathlib.Core.Path.{_≡_};
 ghost use mathlib.Core.Bool.{cond};
 ghost use Prim.Native.Nat.{_^_, _<_, _≤_, min};
-ghost use Rattle.positions.specs.Counts.{neighbours};
+ghost use Rattle.positions.specs.Text.{numPosLuma};
 ghost use Rattle.header.specs.Row.{bit};
 ghost use Rattle.header.specs.Scalars.{scalars};
 ghost use Rattle.header.specs.Text.{countsOf};
@@ -49,7 +49,7 @@ pub fn smaller(a: usize, b: usize) -> usize
 
 // 2 × lag × (lag + 1)
 fn num_pos_luma(lag: u8) -> usize
-    ensures { λ r. ⌜ (r ≡ neighbours lag) × (r < 2 ^ 18) ⌝ }
+    ensures { λ r. ⌜ (r ≡ numPosLuma lag) × (r < 2 ^ 18) ⌝ }
 {
     let n = lag as usize;
     2 * n * (n + 1)

@@ -6,7 +6,7 @@ use Rattle.header.specs.Stored.{stored}
 use Rattle.header.specs.Scalars.{recordOf}
 use Rattle.header.specs.Text.{countsOf}
 use Rattle.header.specs.Size.{openingSize, sizeOf}
-use Rattle.header.proofs.Short.{record-is}
+use Rattle.header.proofs.Bytes.{record-is}
 use Rattle.header.proofs.Answers.{refused-4, refused-10, refused-11, answered}
 use Rattle.header.proofs.write_film_grain_params.Statement.{statement}
 use Rattle.header.proofs.write_film_grain_params.Tie as tie

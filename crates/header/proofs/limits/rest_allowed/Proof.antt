@@ -3,7 +3,8 @@ use borrow.Author.Needs.{needs}
 use Rattle.header.specs.Scalars.{scalars}
 use Rattle.header.specs.Text.{lumaPart, chromaPart, filterPart, closing}
 use Rattle.header.proofs.Folds.{allowed-append}
-use Rattle.header.proofs.Short.{uncoded-counts, record-is}
+use Rattle.header.proofs.Short.{uncoded-counts}
+use Rattle.header.proofs.Bytes.{record-is}
 use Rattle.header.proofs.limits.rest_allowed.Statement.{statement}
 use Rattle.header.proofs.limits.rest_allowed.Tie as tie
 

@@ -3,7 +3,7 @@ use mathlib.Core.Path.{_≡_, refl, sym, _∙_}
 use Prim.Native.Nat.{_-_, _≤_}
 use native.Mathlib.Omega.{arith}
 use borrow.Author.Needs.{needs}
-use Rattle.header.proofs.Short.{zeros, zeros-none, zeros-more, rest-zeros}
+use Rattle.header.proofs.Bytes.{zeros, zeros-none, zeros-more, rest-zeros}
 use Rattle.header.proofs.limits.rest_skipped.Statement.{statement}
 use Rattle.header.proofs.limits.rest_skipped.Tie as tie
 
