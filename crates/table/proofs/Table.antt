@@ -6,6 +6,7 @@ use Rattle.table.proofs.Denoise as Denoise
 use Rattle.table.proofs.Fit as Fit
 use Rattle.table.proofs.Float as Float
 use Rattle.table.proofs.Gates as Gates
+use Rattle.table.proofs.Header as Header
 use Rattle.table.proofs.Positions as Positions
 use Rattle.table.proofs.Profile as Profile
 use Rattle.table.proofs.Questions as Questions
@@ -51,6 +52,8 @@ table =
       chroma-gates-asked = Questions.chroma-gates-right;
       orders-asked = Questions.orders-right;
       bits-asked = Questions.bits-right;
+      headers-written = Header.written-right;
+      headers-refused = Header.refused-right;
       reads = Reader.reads-right;
       sums = Sums.sum-cases-right;
     }

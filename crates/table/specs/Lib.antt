@@ -10,6 +10,7 @@ pub mod Gates
 pub mod Random
 pub mod Reader
 pub mod Questions
+pub mod Header
 pub mod Positions
 pub mod Fit
 pub mod Table

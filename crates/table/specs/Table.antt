@@ -15,6 +15,7 @@ use Rattle.table.specs.Denoise as Denoise
 use Rattle.table.specs.Fit as Fit
 use Rattle.table.specs.Float as Float
 use Rattle.table.specs.Gates as Gates
+use Rattle.table.specs.Header as Header
 use Rattle.table.specs.Positions as Positions
 use Rattle.table.specs.Profile as Profile
 use Rattle.table.specs.Questions as Questions
@@ -70,6 +71,9 @@ pub record Table : Type 0 where
   pub chroma-gates-asked : Right Questions.chromaGate Questions.chromaGateCases
   pub orders-asked : Right Questions.order Questions.orderCases
   pub bits-asked : Right Questions.bits Questions.bitsCases
+  -- headers with their bytes, and records that are refused
+  pub headers-written : Right Header.outcome Header.writtenCases
+  pub headers-refused : Right Header.outcome Header.refusedCases
   -- reads held at the edge; f64 sums
   pub reads : Right Reader.read Reader.reads
   pub sums : Right sumF Sums.sumCases
