@@ -5,7 +5,7 @@ use Prim.Native.Nat.{ℕ, _+_, _-_, _*_}
 use lib.ListN.{length, replicate}
 use Rattle.laws.specs.Table.{tabulate}
 use Rattle.table.specs.Cases.{Case, row}
-use Rattle.header.specs.declared.FilmGrainParams.{FilmGrainParams}
+use Rattle.header.specs.Record.{FilmGrainParams}
 use Rattle.header.specs.declared.Written.{Written}
 use Rattle.header.specs.Reset.{reset}
 use Rattle.header.specs.Calls.{written, writeOutcome}
