@@ -6,6 +6,7 @@ use Prim.Native.Nat.{ℕ, _≤_}
 use lib.ListN.{drop, replicate}
 use borrow.Author.Tests.{le-leb}
 use Rattle.header.specs.Record.{FilmGrainParams}
+use Rattle.header.specs.Stored.{stored}
 use Rattle.header.specs.Row.{each, width, code, allowed}
 use Rattle.header.specs.Text.{countsOf, point, points, coeff, coeffs, opening, lumaPart, chromaPart, filterPart, closing, table, rows}
 use Rattle.header.specs.Bits.{digits, number, bitsOf, allAllowed}
@@ -13,6 +14,11 @@ use Rattle.header.specs.Calls.{headerBits, writeRefusal}
 use Rattle.header.specs.Reset.{reset}
 use Rattle.header.specs.Fits.{said}
 use Rattle.header.proofs.Fit.{record-said}
+
+-- in memory it is zeros
+pub reset-bytes : stored (replicate 168 0) ≡ reset
+unfolding stored
+reset-bytes = refl
 
 pub reset-stored : (inter : Bool) (format : ℕ) → map (λ r. r .stored) (rows reset inter format) ≡ replicate 162 0
 unfolding rows table countsOf opening lumaPart chromaPart filterPart closing points point coeffs coeff each

@@ -5,12 +5,12 @@ use Rattle.header.specs.declared.stored.Fields.{Fields}
 use Rattle.header.specs.Record.{FilmGrainParams}
 use Rattle.header.specs.Stored.{byteOf, flagAt, wordAt, listAt}
 
--- the fields that bytes hold
-unfoldable pub fieldsOf : List ℕ → Fields
-fieldsOf l =
+-- the fields that bytes hold, with their three numbers of two bytes
+abbrev pub fieldsWith : ℕ → ℕ → ℕ → List ℕ → Fields
+fieldsWith seed cb cr l =
     record {
       «apply_grain» = flagAt l 0;
-      «grain_seed» = wordAt l 2;
+      «grain_seed» = seed;
       «update_grain» = flagAt l 4;
       «film_grain_params_ref_idx» = byteOf l 5;
       «num_y_points» = byteOf l 6;
@@ -23,13 +23,16 @@ fieldsOf l =
       «grain_scale_shift» = byteOf l 155;
       «cb_mult» = byteOf l 156;
       «cb_luma_mult» = byteOf l 157;
-      «cb_offset» = wordAt l 158;
+      «cb_offset» = cb;
       «cr_mult» = byteOf l 160;
       «cr_luma_mult» = byteOf l 161;
-      «cr_offset» = wordAt l 162;
+      «cr_offset» = cr;
       «overlap_flag» = flagAt l 164;
       «clip_to_restricted_range» = flagAt l 165;
     }
+
+unfoldable pub fieldsOf : List ℕ → Fields
+fieldsOf l = fieldsWith (wordAt l 2) (wordAt l 158) (wordAt l 162) l
 
 -- fields put together with the lists that bytes hold
 abbrev pub recordOf : Fields → List ℕ → FilmGrainParams
