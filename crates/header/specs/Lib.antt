@@ -14,4 +14,5 @@ pub mod Reset
 pub mod Fits
 pub mod Allowed
 pub mod Semantics
+pub mod Skipped
 pub mod Room
