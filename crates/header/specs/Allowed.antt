@@ -1,12 +1,9 @@
 -- "10 if a field, or a place of an array, breaks a limit .., does not fit its bits, or is skipped by the syntax and differs from `FilmGrainParams::reset`": what is left, in words.
 use mathlib.Core.Path.{_≡_}
-use mathlib.Core.Bool.{Bool, true, false}
+use mathlib.Core.Bool.{true, false}
 use mathlib.Core.List.{List, [], _∷_}
 use Prim.Native.Nat.{_≤_}
-use lib.ListN.{take, drop}
-use Rattle.header.specs.Record.{FilmGrainParams}
 use Rattle.header.specs.Row.{Row}
-use Rattle.header.specs.Text.{opening}
 
 -- what the syntax has lies within its limits, and what it skips is 0
 pub record Allowed (r : Row) : Type 0 where
@@ -16,7 +13,3 @@ pub record Allowed (r : Row) : Type 0 where
 abbrev pub EachAllowed : List Row → Type 0
 EachAllowed [] = Unit {0}
 EachAllowed (r ∷ rs) = Allowed r × EachAllowed rs
-
--- update_grain, the third row, has an exception: "which is true when grain is applied on a frame that is not inter"
-abbrev pub updateRow : FilmGrainParams → Bool → List Row
-updateRow p inter = take 1 (drop 2 (opening p inter))
