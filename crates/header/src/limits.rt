@@ -3,7 +3,13 @@ use crate::counts::Counts;
 use crate::counts::flag;
 use crate::counts::smaller;
 use crate::counts::wide;
+use crate::stored::CB_COEFFS;
+use crate::stored::CB_POINTS;
+use crate::stored::CR_COEFFS;
+use crate::stored::CR_POINTS;
 use crate::stored::Fields;
+use crate::stored::Y_COEFFS;
+use crate::stored::Y_POINTS;
 use crate::stored::list;
 ghost use mathlib.Core.Path.{_≡_};
 ghost use mathlib.Core.Bool.{cond, _&&_, _||_};
@@ -97,7 +103,7 @@ fn opening_allowed(f: Fields, inter: bool) -> bool
 fn luma_allowed(p: &[u8; 168], f: Fields, c: Counts) -> bool
     ensures { λ r. ⌜ r ≡ allAllowed (lumaPart (recordOf f (now (p .entry))) c) ⌝ }
 {
-    is_allowed(c.coded, 0, 14, wide(f.num_y_points)) & points_allowed(p, 7, 14, c.y_points)
+    is_allowed(c.coded, 0, 14, wide(f.num_y_points)) & points_allowed(p, Y_POINTS, 14, c.y_points)
 }
 
 // In 4:2:0 Cr has no points where Cb has none.
@@ -123,9 +129,9 @@ fn chroma_allowed(p: &[u8; 168], f: Fields, format: u8, c: Counts) -> bool
         flag(f.chroma_scaling_from_luma),
     )
         & (is_allowed(c.chroma, 0, 10, wide(f.num_cb_points))
-            & (points_allowed(p, 37, 10, c.cb_points)
+            & (points_allowed(p, CB_POINTS, 10, c.cb_points)
                 & (is_allowed(c.chroma, least, most, wide(f.num_cr_points))
-                    & points_allowed(p, 58, 10, c.cr_points))))
+                    & points_allowed(p, CR_POINTS, 10, c.cr_points))))
 }
 
 fn filter_allowed(p: &[u8; 168], f: Fields, c: Counts) -> bool
@@ -133,9 +139,9 @@ fn filter_allowed(p: &[u8; 168], f: Fields, c: Counts) -> bool
 {
     is_allowed(c.coded, 8, 11, wide(f.grain_scaling))
         & (is_allowed(c.coded, 0, 3, wide(f.ar_coeff_lag))
-            & (coeffs_allowed(p, 80, 24, c.y_coeffs)
-                & (coeffs_allowed(p, 104, 25, c.cb_coeffs)
-                    & coeffs_allowed(p, 129, 25, c.cr_coeffs))))
+            & (coeffs_allowed(p, Y_COEFFS, 24, c.y_coeffs)
+                & (coeffs_allowed(p, CB_COEFFS, 25, c.cb_coeffs)
+                    & coeffs_allowed(p, CR_COEFFS, 25, c.cr_coeffs))))
 }
 
 // A plane's multipliers and offset.

@@ -5,6 +5,19 @@ ghost use lib.ListN.{length};
 ghost use Rattle.header.specs.Stored.{listAt};
 ghost use Rattle.header.specs.Scalars.{fieldsOf};
 
+// Where a plane's lists begin: the values of its points, with as many scalings after them, and its coefficients.
+pub const Y_POINTS: usize = 7;
+
+pub const CB_POINTS: usize = 37;
+
+pub const CR_POINTS: usize = 58;
+
+pub const Y_COEFFS: usize = 80;
+
+pub const CB_COEFFS: usize = 104;
+
+pub const CR_COEFFS: usize = 129;
+
 // The fields of a record but its lists and `predicted`.
 pub struct Fields {
     pub apply_grain: bool,

@@ -6,7 +6,13 @@ use crate::counts::Counts;
 use crate::counts::flag;
 use crate::counts::smaller;
 use crate::counts::wide;
+use crate::stored::CB_COEFFS;
+use crate::stored::CB_POINTS;
+use crate::stored::CR_COEFFS;
+use crate::stored::CR_POINTS;
 use crate::stored::Fields;
+use crate::stored::Y_COEFFS;
+use crate::stored::Y_POINTS;
 use crate::stored::list;
 ghost use mathlib.Core.Path.{_≡_};
 ghost use mathlib.Core.Bool.{cond};
@@ -138,7 +144,7 @@ fn put_luma(dst: &mut [u8], w: Cursor, p: &[u8; 168], f: Fields, c: Counts) -> C
     ensures { λ r. ⌜ Put (bitsOf (lumaPart (recordOf f (now (p .entry))) c)) w (now (dst .entry)) r (now (dst .exit)) × Ready r × (r .at ≤ w .at + 29) ⌝ }
 {
     let a = put_field(dst, w, c.coded, 4, wide(f.num_y_points));
-    put_points(dst, a, p, 7, 14, c.y_points)
+    put_points(dst, a, p, Y_POINTS, 14, c.y_points)
 }
 
 fn put_chroma(dst: &mut [u8], w: Cursor, p: &[u8; 168], f: Fields, format: u8, c: Counts) -> Cursor
@@ -148,9 +154,9 @@ fn put_chroma(dst: &mut [u8], w: Cursor, p: &[u8; 168], f: Fields, format: u8, c
     let from_luma = flag(f.chroma_scaling_from_luma);
     let a = put_field(dst, w, c.coded & !(format == 0), 1, from_luma);
     let b = put_field(dst, a, c.chroma, 4, wide(f.num_cb_points));
-    let d = put_points(dst, b, p, 37, 10, c.cb_points);
+    let d = put_points(dst, b, p, CB_POINTS, 10, c.cb_points);
     let e = put_field(dst, d, c.chroma, 4, wide(f.num_cr_points));
-    put_points(dst, e, p, 58, 10, c.cr_points)
+    put_points(dst, e, p, CR_POINTS, 10, c.cr_points)
 }
 
 fn put_filter(dst: &mut [u8], w: Cursor, p: &[u8; 168], f: Fields, c: Counts) -> Cursor
@@ -159,9 +165,9 @@ fn put_filter(dst: &mut [u8], w: Cursor, p: &[u8; 168], f: Fields, c: Counts) ->
 {
     let a = put_field(dst, w, c.coded, 2, code_of(f.grain_scaling, 8));
     let b = put_field(dst, a, c.coded, 2, wide(f.ar_coeff_lag));
-    let d = put_coeffs(dst, b, p, 80, 24, c.y_coeffs);
-    let e = put_coeffs(dst, d, p, 104, 25, c.cb_coeffs);
-    put_coeffs(dst, e, p, 129, 25, c.cr_coeffs)
+    let d = put_coeffs(dst, b, p, Y_COEFFS, 24, c.y_coeffs);
+    let e = put_coeffs(dst, d, p, CB_COEFFS, 25, c.cb_coeffs);
+    put_coeffs(dst, e, p, CR_COEFFS, 25, c.cr_coeffs)
 }
 
 // A plane's multipliers and offset.
