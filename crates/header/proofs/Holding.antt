@@ -1,9 +1,9 @@
 -- What the writer holds: at its start, with bits more, with a byte more stored, and at its end, where the destination has the bits. Assumes nothing.
 use mathlib.Core.Path.{_≡_, refl, sym, _∙_, ap}
 use mathlib.Core.Bool.{Bool, true, false, cond}
-use mathlib.Core.List.{List, [], _∷_, _++_, append-assoc, append-nil}
+use mathlib.Core.List.{List, [], _++_, append-assoc, append-nil}
 use mathlib.Core.Logic.{⊎-elim}
-use Prim.Native.Nat.{ℕ, zero, suc, _+_, _-_, _*_, _/_, _%_, _^_, _<_, _≤_}
+use Prim.Native.Nat.{ℕ, _+_, _-_, _*_, _/_, _%_, _^_, _<_, _≤_}
 use native.Mathlib.Omega.{arith}
 use native.Mathlib.Nat.{eq-or-lt-of-le, zero-div, mod-lt}
 use lib.Dec.{ltb}
@@ -11,13 +11,13 @@ use lib.Arith.{digits-lt}
 use lib.Pow.{pow-add, pow-mono, pow-pos}
 use lib.ListN.{length, getD, take, drop, set, length-append, length-drop, length-set, List·getD-append, List·getD-eq-default}
 use lib.Seq.{ext-getD, getD-take, getD-drop, getD-append-add, getD-set-same, getD-set-other, set-out, drop-drop, drop-append-le, length-take-le}
-use borrow.Author.Tests.{ltb-true, ltb-false, lt-ltb, le-ltb}
+use borrow.Author.Tests.{ltb-true, ltb-false}
 use Rattle.laws.specs.Table.{tabulate}
 use Rattle.laws.proofs.Table.{tabulate-same, length-tabulate, getD-tabulate}
 use Rattle.header.specs.Bits.{digits, number, byteAt, packed}
 use Rattle.header.specs.declared.bits.Cursor.{Cursor}
 use Rattle.header.specs.Held.{Binary, Held, start, Ready, Put}
-use Rattle.header.proofs.Numbers.{number-append, number-low, binary-append, binary-drop, first-eight, after-eight, digits-length, digits-binary, digits-number}
+use Rattle.header.proofs.Numbers.{number-append, binary-append, binary-drop, first-eight, after-eight, digits-length, digits-binary, digits-number}
 
 -- ---- bytes
 

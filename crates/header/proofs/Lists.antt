@@ -1,17 +1,17 @@
 -- A place of a plane's points, and of its coefficients: allowed or not, and its bits, where the syntax has it and where it skips it. Assumes nothing.
-use mathlib.Core.Path.{_≡_, refl, sym, _∙_}
+use mathlib.Core.Path.{_≡_, refl}
 use mathlib.Core.Bool.{Bool, true, false, cond, _&&_, _||_, and-true}
-use mathlib.Core.List.{List, [], _∷_, _++_, append-nil}
+use mathlib.Core.List.{List, [], _++_, append-nil}
 use Prim.Native.Nat.{ℕ, zero, suc, _+_, _-_, _<_, _≤_, min}
 use native.Mathlib.Omega.{arith}
 use native.Mathlib.Numerals.{add-one}
 use lib.Dec.{leb, ltb, eqb}
-use lib.ListN.{length, getD}
+use lib.ListN.{getD}
 use borrow.Author.Tests.{ltb-true, ltb-false, lt-ltb, le-ltb, le-leb, lt-leb}
 use Rattle.header.specs.Row.{Row, each, width, code, allowed}
-use Rattle.header.specs.Text.{point, points, coeff, coeffs}
+use Rattle.header.specs.Text.{point, coeff}
 use Rattle.header.specs.Bits.{digits, bitsOf, allAllowed}
-use Rattle.header.proofs.Folds.{allowed-each, bits-past}
+use Rattle.header.proofs.Folds.{allowed-each}
 
 -- one above the last, or the first
 rising : (t : Bool) (last v : ℕ) → leb (cond t 0 (last + 1)) v ≡ (t || ltb last v)

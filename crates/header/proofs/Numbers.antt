@@ -1,16 +1,15 @@
 -- Digits and the numbers that they say: a list after another, the first eight of more, and back. By induction on the list. Assumes nothing.
 use mathlib.Core.Path.{_≡_, refl, sym, _∙_, ap}
 use mathlib.Core.List.{List, [], _∷_, _++_, append-assoc, append-nil}
-use Prim.Native.Nat.{ℕ, zero, suc, _+_, _-_, _*_, _/_, _%_, _^_, _<_, _≤_}
+use Prim.Native.Nat.{ℕ, zero, suc, _+_, _-_, _*_, _/_, _%_, _^_, _<_}
 use native.Mathlib.Omega.{arith}
 use native.Mathlib.Nat.{add-mul, mul-assoc, add-assoc, zero-mul, zero-add}
 use native.Mathlib.Numerals.{add-one}
 use lib.Arith.{digits-lt}
-use lib.Pow.{pow-add, pow-pos, shr-shr, mod-pow-add, high, low}
-use lib.ListN.{length, getD, take, drop, length-append, length-drop, length-take, take-append-drop}
-use lib.Seq.{ext-getD, getD-drop, getD-take}
+use lib.Pow.{pow-add, shr-shr, mod-pow-add, high, low}
+use lib.ListN.{length, take, drop, length-append, length-drop, take-append-drop}
 use Rattle.laws.specs.Table.{tabulate}
-use Rattle.laws.proofs.Table.{tabulate-same, length-tabulate, getD-tabulate}
+use Rattle.laws.proofs.Table.{tabulate-same, length-tabulate}
 use Rattle.header.specs.Bits.{digits, number}
 use Rattle.header.specs.Held.{Binary}
 

@@ -1,5 +1,5 @@
 -- A header that doesn't hold the parameters themselves: no list has a place in it, what comes after the slot is allowed where it is 0, and has no bits. Assumes nothing.
-use mathlib.Core.Path.{_≡_, refl, sym, _∙_}
+use mathlib.Core.Path.{_≡_, refl, _∙_}
 use mathlib.Core.Bool.{Bool, true, false, not, _&&_, and-true}
 use mathlib.Core.List.{List, [], _∷_, _++_}
 use Prim.Native.Nat.{ℕ}
@@ -10,7 +10,7 @@ use borrow.Author.Tests.{not-true}
 use Rattle.header.specs.Record.{FilmGrainParams}
 use Rattle.header.specs.declared.counts.Counts.{Counts}
 use Rattle.header.specs.Row.{bit, allowed}
-use Rattle.header.specs.Text.{coded, countsOf, uncoded, points, coeffs, opening, lumaPart, chromaPart, filterPart, closing, rest, table}
+use Rattle.header.specs.Text.{coded, countsOf, uncoded, points, coeffs, opening, lumaPart, chromaPart, filterPart, closing, rest}
 use Rattle.header.specs.Bits.{bitsOf, allAllowed}
 use Rattle.header.specs.Size.{openingSize, sizeOf}
 use Rattle.header.proofs.Folds.{allowed-append}

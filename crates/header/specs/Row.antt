@@ -1,6 +1,6 @@
 -- "f(n) is n bits, highest first." A row of 5.9.30's table: a field, or a place of an array.
 use mathlib.Core.Bool.{Bool, cond, _&&_}
-use mathlib.Core.List.{List, [], _∷_, _++_}
+use mathlib.Core.List.{List, [], _++_}
 use Prim.Native.Nat.{ℕ, zero, suc, _+_, _-_, _^_}
 use lib.Dec.{leb, eqb}
 

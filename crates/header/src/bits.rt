@@ -1,6 +1,5 @@
 // Bits put one after another into bytes, the highest of a byte first.
 ghost use mathlib.Core.Path.{_≡_};
-ghost use mathlib.Core.Bool.{cond};
 ghost use mathlib.Core.List.{List};
 ghost use Prim.Native.Nat.{ℕ, _+_, _*_, _^_, _<_, _≤_};
 ghost use Rattle.header.specs.Bits.{digits};

@@ -1,5 +1,5 @@
 -- `header::write_film_grain_params`: each question in its turn, then the bits. Assumes nothing.
-use mathlib.Core.Path.{_≡_, sym, _∙_}
+use mathlib.Core.Path.{sym, _∙_}
 use borrow.Author.Tests.{not-true, not-false}
 use borrow.Author.Needs.{needs}
 use Rattle.header.specs.Stored.{stored}

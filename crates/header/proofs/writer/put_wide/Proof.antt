@@ -1,7 +1,7 @@
 -- `header::writer::put_wide`: its high bits, then its low eight. Assumes nothing.
 use native.Mathlib.Omega.{arith}
 use mathlib.Core.Path.{_≡_}
-use Prim.Native.Nat.{_+_, _-_, _/_}
+use Prim.Native.Nat.{_+_, _-_}
 use borrow.Author.Needs.{needs}
 use Rattle.header.proofs.Numbers.{digits-split}
 use Rattle.header.specs.Bits.{digits}
