@@ -1,4 +1,4 @@
--- "The bits are those of the syntax table, and bytes past them remain." Headers with their bytes worked out by hand; and records that are refused with 4, 10 or 11, the destination as it was.
+-- "The bits are those of the syntax table, and bytes past them remain." Headers with their bytes worked out apart from the definitions; and records that are refused with 4, 10 or 11, the destination as it was.
 use mathlib.Core.Bool.{Bool, true, false}
 use mathlib.Core.List.{List, [], _∷_, _++_, map}
 use Prim.Native.Nat.{ℕ, _+_, _-_, _*_}
