@@ -1,11 +1,10 @@
 -- Question 10 lets a record pass exactly if it keeps every limit of the semantics, fits its bits, and is as reset where the syntax skips it. Assumes nothing.
 use mathlib.Core.Path.{_≡_, refl, sym}
 use mathlib.Core.Bool.{Bool, true, false, cond, not, _&&_, _||_, false≢true}
-use mathlib.Core.List.{List, [], _∷_, _++_}
-use mathlib.Core.Logic.{_↔_, ⊎-elim}
+use mathlib.Core.List.{List, _++_}
+use mathlib.Core.Logic.{_↔_}
 use Prim.Native.Nat.{ℕ, zero, suc, _+_, _-_, _^_, _<_, _≤_}
 use native.Mathlib.Omega.{arith}
-use native.Mathlib.Nat.{eq-or-lt-of-le}
 use native.Mathlib.Numerals.{add-one}
 use lib.Dec.{ltb, eqb}
 use lib.ListN.{getD}
@@ -15,31 +14,14 @@ use Rattle.laws.specs.Limits.{neighbourLimit, orderLimit}
 use Rattle.positions.proofs.Filter.{luma-most}
 use Rattle.header.specs.Record.{FilmGrainParams}
 use Rattle.header.specs.declared.counts.Counts.{Counts}
-use Rattle.header.specs.Row.{Row, limited, raised, field, bit, each}
+use Rattle.header.specs.Row.{limited, raised, field, bit, All}
 use Rattle.header.specs.Text.{monochrome, yuv420, coded, chroma, yPoints, lumaCoeffs, chromaCoeffs, countsOf, point, points, coeff, coeffs, opening, lumaPart, chromaPart, filterPart, closing, table, rows}
 use Rattle.header.specs.Bits.{allAllowed}
-use Rattle.header.specs.Allowed.{Allowed, EachAllowed}
+use Rattle.header.specs.Allowed.{Allowed}
 use Rattle.header.specs.Semantics.{Rising, Bytes, PointLimits, MixLimits, Limits}
 use Rattle.header.specs.Skipped.{Past, PointsReset, MixReset, AsReset}
+use Rattle.header.proofs.Folds.{all-append, all-each}
 use Rattle.header.proofs.Causes.{rows-allowed}
-
--- ---- lists of rows
-
-append-allowed : (a b : List Row) → EachAllowed (a ++ b) ↔ (EachAllowed a × EachAllowed b)
-append-allowed [] b = (λ h. (tt, h), λ h. h .1)
-append-allowed (r ∷ a) b =
-    let q = append-allowed a b in
-    (λ h. ((h .0, q .0 (h .1) .0), q .0 (h .1) .1), λ h. (h .0 .0, q .1 (h .0 .1, h .1)))
-
-each-allowed : (n : ℕ) (f : ℕ → List Row) → EachAllowed (each n f) ↔ ((i : ℕ) → i < n → EachAllowed (f i))
-unfolding each
-each-allowed zero f = (λ h i l. absurd (omega arith), λ h. tt)
-each-allowed (suc n) f =
-    let q = append-allowed (each n f) (f n) in
-    let r = each-allowed n f in (
-      λ h i l. ⊎-elim (λ (e : i ≡ n). rw e (q .0 h .1)) (λ (m : i < n). r .0 (q .0 h .0) i m) (eq-or-lt-of-le (omega arith)),
-      λ h. q .1 (r .1 (λ i l. h i (omega arith)), h n (omega arith)),
-    )
 
 -- ---- a row
 
@@ -144,10 +126,10 @@ module _ (places n : ℕ) (l : List ℕ) (least : ℕ → ℕ) where
   )
 
 -- a plane's coefficients
-coeffs-allowed : (places n : ℕ) (l : List ℕ) → n ≤ places → EachAllowed (coeffs places n l) ↔ (Bytes n l × Past n places l)
+coeffs-allowed : (places n : ℕ) (l : List ℕ) → n ≤ places → All Allowed (coeffs places n l) ↔ (Bytes n l × Past n places l)
 unfolding coeffs coeff
 coeffs-allowed places n l m =
-    let q = each-allowed places (coeff n l) in
+    let q = all-each Allowed places (coeff n l) in
     let r = places-allowed places n l (λ i. 0) m in
     (λ h. r .0 (λ i o. q .0 h i o .0) .1, λ h. q .1 (λ i o. (r .1 (λ j k. omega arith, h) i o, tt)))
 
@@ -171,11 +153,11 @@ module _ (n : ℕ) (values : List ℕ) where
 
 -- a plane's points
 points-allowed : (places n : ℕ) (values scalings : List ℕ) → n ≤ places
-    → EachAllowed (points places n values scalings)
+    → All Allowed (points places n values scalings)
     ↔ ((Rising n values × (Bytes n values × Past n places values)) × (Bytes n scalings × Past n places scalings))
 unfolding points point
 points-allowed places n values scalings m =
-    let q = each-allowed places (point n values scalings) in
+    let q = all-each Allowed places (point n values scalings) in
     let v = places-allowed places n values (above n values) m in
     let s = places-allowed places n scalings (λ i. 0) m in
     let r = rising-places n values in (
@@ -185,7 +167,7 @@ points-allowed places n values scalings m =
 
 -- a plane's number of points, and its points
 plane-allowed : (present : Bool) (places n : ℕ) (values scalings : List ℕ)
-    → (Allowed (limited 4 present 0 places n) × EachAllowed (points places (cond present n 0) values scalings))
+    → (Allowed (limited 4 present 0 places n) × All Allowed (points places (cond present n 0) values scalings))
     ↔ (PointLimits places n values scalings × PointsReset present places n values scalings)
 plane-allowed present places n values scalings = (
   λ h.
@@ -241,15 +223,15 @@ chroma-places p points l = at-most (coded p && p .«chroma_scaling_from_luma» |
 -- ---- the record
 
 -- its five parts
-parts : (p : FilmGrainParams) (inter : Bool) (format : ℕ) → EachAllowed (rows p inter format)
-    ↔ (EachAllowed (opening p inter) × (EachAllowed (lumaPart p (countsOf p format)) × (EachAllowed (chromaPart p format (countsOf p format)) × (EachAllowed (filterPart p (countsOf p format)) × EachAllowed (closing p (countsOf p format))))))
+parts : (p : FilmGrainParams) (inter : Bool) (format : ℕ) → All Allowed (rows p inter format)
+    ↔ (All Allowed (opening p inter) × (All Allowed (lumaPart p (countsOf p format)) × (All Allowed (chromaPart p format (countsOf p format)) × (All Allowed (filterPart p (countsOf p format)) × All Allowed (closing p (countsOf p format))))))
 unfolding rows table
 parts p inter format =
     let c : Counts = countsOf p format in
-    let o = append-allowed (opening p inter) (lumaPart p c ++ (chromaPart p format c ++ (filterPart p c ++ closing p c))) in
-    let l = append-allowed (lumaPart p c) (chromaPart p format c ++ (filterPart p c ++ closing p c)) in
-    let h = append-allowed (chromaPart p format c) (filterPart p c ++ closing p c) in
-    let f = append-allowed (filterPart p c) (closing p c) in (
+    let o = all-append Allowed (opening p inter) (lumaPart p c ++ (chromaPart p format c ++ (filterPart p c ++ closing p c))) in
+    let l = all-append Allowed (lumaPart p c) (chromaPart p format c ++ (filterPart p c ++ closing p c)) in
+    let h = all-append Allowed (chromaPart p format c) (filterPart p c ++ closing p c) in
+    let f = all-append Allowed (filterPart p c) (closing p c) in (
       λ a.
           let b = o .0 a in
           let d = l .0 (b .1) in
@@ -270,15 +252,15 @@ accepted-exactly p inter format =
     let y = plane-allowed (coded p) 14 (p .«num_y_points») (p .«point_y_value») (p .«point_y_scaling») in
     let from-luma = flag-allowed (coded p && not (monochrome format)) (p .«chroma_scaling_from_luma») in
     let cb = plane-allowed (chroma p format) 10 (p .«num_cb_points») (p .«point_cb_value») (p .«point_cb_scaling») in
-    let after-cb = append-allowed (points 10 (c .«cb_points») (p .«point_cb_value») (p .«point_cb_scaling»)) _ in
+    let after-cb = all-append Allowed (points 10 (c .«cb_points») (p .«point_cb_value») (p .«point_cb_scaling»)) _ in
     let cr-count = cr-kept (yuv420 format) (chroma p format) (p .«num_cb_points») (p .«num_cr_points») in
     let cr = plane-allowed (chroma p format) 10 (p .«num_cr_points») (p .«point_cr_value») (p .«point_cr_scaling») in
     let lag = limited-allowed 2 (coded p) 3 (p .«ar_coeff_lag») in
     let y-coeffs = coeffs-allowed neighbourLimit (c .«y_coeffs») (p .«ar_coeffs_y_plus_128») in
     let cb-coeffs = coeffs-allowed orderLimit (c .«cb_coeffs») (p .«ar_coeffs_cb_plus_128») in
     let cr-coeffs = coeffs-allowed orderLimit (c .«cr_coeffs») (p .«ar_coeffs_cr_plus_128») in
-    let after-y-coeffs = append-allowed (coeffs neighbourLimit (c .«y_coeffs») (p .«ar_coeffs_y_plus_128»)) _ in
-    let after-cb-coeffs = append-allowed (coeffs orderLimit (c .«cb_coeffs») (p .«ar_coeffs_cb_plus_128»)) _ in
+    let after-y-coeffs = all-append Allowed (coeffs neighbourLimit (c .«y_coeffs») (p .«ar_coeffs_y_plus_128»)) _ in
+    let after-cb-coeffs = all-append Allowed (coeffs orderLimit (c .«cb_coeffs») (p .«ar_coeffs_cb_plus_128»)) _ in
     let scale-shift = limited-allowed 2 (coded p) 3 (p .«grain_scale_shift») in
     let cb-mix = mix-allowed (chroma p format) (p .«num_cb_points») (p .«cb_mult») (p .«cb_luma_mult») (p .«cb_offset») in
     let cr-mix = mix-allowed (chroma p format) (p .«num_cr_points») (p .«cr_mult») (p .«cr_luma_mult») (p .«cr_offset») in
@@ -358,9 +340,9 @@ accepted-exactly p inter format =
           let cr-coeffs-to = cr-coeffs (chroma-places p (c .«cr_points») (k .lag)) .1 (k .cr-coeffs, s .cr-coeffs) in
           let m = cb-mix (s .cb-points .count) .1 (k .cb-mix, s .cb-mix) in
           let n = cr-mix (s .cr-points .count) .1 (k .cr-mix, s .cr-mix) in
-          let o : EachAllowed (opening p inter) = (apply .1 (λ e. absurd (false≢true (sym e))), (seed .1 (k .seed, s .seed), (update .1 (s .update-unapplied, s .update-other), (slot .1 (k .slot, s .slot), tt)))) in
-          let h : EachAllowed (chromaPart p format c) = (from-luma .1 (s .from-luma), (cb-to .0, after-cb .1 (cb-to .1, (cr-count (s .cb-points .count) .1 (cr-to .0, k .both), cr-to .1)))) in
-          let f : EachAllowed (filterPart p c) = (record { kept = k .scaling; skipped = s .scaling }, (lag .1 (k .lag, s .lag), after-y-coeffs .1 (y-coeffs-to, after-cb-coeffs .1 (cb-coeffs-to, cr-coeffs-to)))) in
-          let z : EachAllowed (closing p c) = (record { kept = k .shift; skipped = s .shift }, (scale-shift .1 (k .scale-shift, s .scale-shift), (m .0, (m .1 .0, (m .1 .1, (n .0, (n .1 .0, (n .1 .1, (overlap .1 (s .overlap), (clip .1 (s .clip), tt)))))))))) in
+          let o : All Allowed (opening p inter) = (apply .1 (λ e. absurd (false≢true (sym e))), (seed .1 (k .seed, s .seed), (update .1 (s .update-unapplied, s .update-other), (slot .1 (k .slot, s .slot), tt)))) in
+          let h : All Allowed (chromaPart p format c) = (from-luma .1 (s .from-luma), (cb-to .0, after-cb .1 (cb-to .1, (cr-count (s .cb-points .count) .1 (cr-to .0, k .both), cr-to .1)))) in
+          let f : All Allowed (filterPart p c) = (record { kept = k .scaling; skipped = s .scaling }, (lag .1 (k .lag, s .lag), after-y-coeffs .1 (y-coeffs-to, after-cb-coeffs .1 (cb-coeffs-to, cr-coeffs-to)))) in
+          let z : All Allowed (closing p c) = (record { kept = k .shift; skipped = s .shift }, (scale-shift .1 (k .scale-shift, s .scale-shift), (m .0, (m .1 .0, (m .1 .1, (n .0, (n .1 .0, (n .1 .1, (overlap .1 (s .overlap), (clip .1 (s .clip), tt)))))))))) in
           rows-allowed (rows p inter format) .1 (parts p inter format .1 (o, (y .1 (k .y-points, s .y-points), (h, (f, z))))),
     )

@@ -2,12 +2,12 @@
 use mathlib.Core.Path.{_≡_, refl, sym, _∙_}
 use mathlib.Core.Bool.{_&&_, and-assoc}
 use mathlib.Core.List.{List, [], _∷_, _++_, append-assoc, append-nil}
-use mathlib.Core.Logic.{⊎-elim}
+use mathlib.Core.Logic.{_↔_, ⊎-elim}
 use Prim.Native.Nat.{ℕ, zero, suc, _+_, _<_, _≤_}
 use native.Mathlib.Omega.{arith}
 use native.Mathlib.Numerals.{add-one}
 use native.Mathlib.Nat.{eq-or-lt-of-le}
-use Rattle.header.specs.Row.{Row, each, width, code, allowed}
+use Rattle.header.specs.Row.{Row, All, each, width, code, allowed}
 use Rattle.header.specs.Bits.{digits, bitsOf, allAllowed}
 
 -- ---- one list after another
@@ -22,6 +22,23 @@ unfolding allAllowed
 allowed-append [] b = refl
 allowed-append (r ∷ a) b =
     rw (allowed-append a b) (sym (and-assoc (allowed (r .present) (r .least) (r .most) (r .stored)) (allAllowed a) (allAllowed b)))
+
+module _ (fact : Row → Type 0) where
+  pub all-append : (a b : List Row) → All fact (a ++ b) ↔ (All fact a × All fact b)
+  all-append [] b = (λ h. (tt, h), λ h. h .1)
+  all-append (r ∷ a) b =
+      let q = all-append a b in
+      (λ h. ((h .0, q .0 (h .1) .0), q .0 (h .1) .1), λ h. (h .0 .0, q .1 (h .0 .1, h .1)))
+
+  pub all-each : (n : ℕ) (f : ℕ → List Row) → All fact (each n f) ↔ ((i : ℕ) → i < n → All fact (f i))
+  unfolding each
+  all-each zero f = (λ h i l. absurd (omega arith), λ h. tt)
+  all-each (suc n) f =
+      let q = all-append (each n f) (f n) in
+      let r = all-each n f in (
+        λ h i l. ⊎-elim (λ (e : i ≡ n). rw e (q .0 h .1)) (λ (m : i < n). r .0 (q .0 h .0) i m) (eq-or-lt-of-le (omega arith)),
+        λ h. q .1 (r .1 (λ i l. h i (omega arith)), h n (omega arith)),
+      )
 
 -- ---- a place more
 

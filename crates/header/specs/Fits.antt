@@ -1,6 +1,5 @@
 -- "Does not fit its bits": a row whose limits lie within what its bits can say.
 use mathlib.Core.Bool.{cond}
-use mathlib.Core.List.{List, [], _∷_}
 use Prim.Native.Nat.{ℕ, _+_, _^_, _<_, _≤_}
 use Rattle.header.specs.Row.{Row, width, code}
 use Rattle.header.specs.Bits.{digits, number}
@@ -8,10 +7,6 @@ use Rattle.header.specs.Bits.{digits, number}
 pub record Fits (r : Row) : Type 0 where
   pub low : r .off ≤ r .least
   pub high : r .most < r .off + 2 ^ (r .bits)
-
-abbrev pub AllFit : List Row → Type 0
-AllFit [] = Unit {0}
-AllFit (r ∷ rs) = Fits r × AllFit rs
 
 -- what a row's bits say is stored: their number with what they leave off; 0 where the syntax skips it
 unfoldable pub said : Row → ℕ

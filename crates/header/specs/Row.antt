@@ -1,6 +1,6 @@
 -- "f(n) is n bits, highest first." A row of 5.9.30's table: a field, or a place of an array.
 use mathlib.Core.Bool.{Bool, cond, _&&_}
-use mathlib.Core.List.{List, [], _++_}
+use mathlib.Core.List.{List, [], _∷_, _++_}
 use Prim.Native.Nat.{ℕ, zero, suc, _+_, _-_, _^_}
 use lib.Dec.{leb, eqb}
 
@@ -34,6 +34,11 @@ bit b = cond b 1 0
 unfoldable pub each : ℕ → (ℕ → List Row) → List Row
 each zero f = []
 each (suc n) f = each n f ++ f n
+
+-- a fact of each row of a list
+abbrev pub All : (Row → Type 0) → List Row → Type 0
+All fact [] = Unit {0}
+All fact (r ∷ rs) = fact r × All fact rs
 
 -- ---- what a row says
 
