@@ -10,6 +10,7 @@ pub use numbers::lag_refusal;
 pub use numbers::order_refusal;
 pub use numbers::pair_numbers;
 pub use numbers::plane_refusal;
+pub use questions::format_known;
 pub use questions::samples_low;
 pub use refusals::denoise_frame_refusal;
 pub use refusals::fit_refusal;

@@ -3,6 +3,7 @@ use mathlib.Core.Path.{_≡_, sym, _∙_}
 use mathlib.Core.Bool.{Bool, true, false}
 use mathlib.Core.List.{List}
 use Prim.Native.Nat.{ℕ, _+_, _/_, _<_, _≤_}
+use lib.Dec.{leb}
 use lib.ListN.{length}
 use borrow.Author.Tests.{le-leb, lt-leb}
 use Rattle.header.specs.Record.{FilmGrainParams}
@@ -18,14 +19,14 @@ abbrev Outcome : Type 0
 Outcome = Written × List ℕ
 
 module _ (p : FilmGrainParams) (inter : Bool) (format : ℕ) (d : List ℕ) where
-  pub refused-4 : {r : Written} → r ≡ written 4 0 → 3 < format → _≡_ {A = Outcome} (r, d) (writeOutcome p inter format d)
+  pub refused-4 : {r : Written} → r ≡ written 4 0 → leb format 3 ≡ false → _≡_ {A = Outcome} (r, d) (writeOutcome p inter format d)
   unfolding writeOutcome writeRefusal
-  refused-4 q h = rw (q, lt-leb format 3 h)
+  refused-4 q h = rw (q, h)
 
-  module _ (c : Counts) (e : c ≡ countsOf p format) (known : format ≤ 3) where
+  module _ (c : Counts) (e : c ≡ countsOf p format) (known : leb format 3 ≡ true) where
     pub refused-10 : {r : Written} → false ≡ allAllowed (table p inter format c) → r ≡ written 10 0 → _≡_ {A = Outcome} (r, d) (writeOutcome p inter format d)
     unfolding writeOutcome writeRefusal rows
-    refused-10 a q = rw (q, le-leb format 3 known, ← e, ← a)
+    refused-10 a q = rw (q, known, ← e, ← a)
 
     module _ (a : true ≡ allAllowed (table p inter format c)) (n : ℕ) (s : n ≡ sizeOf p inter format c) where
       allowed-are : allAllowed (rows p inter format) ≡ true
@@ -41,8 +42,8 @@ module _ (p : FilmGrainParams) (inter : Bool) (format : ℕ) (d : List ℕ) wher
 
       pub refused-11 : {r : Written} → r ≡ written 11 0 → length d < (n + 7) / 8 → _≡_ {A = Outcome} (r, d) (writeOutcome p inter format d)
       unfolding writeOutcome writeRefusal
-      refused-11 q h = rw (q, le-leb format 3 known, allowed-are, bits-are, size-as, lt-leb _ _ h)
+      refused-11 q h = rw (q, known, allowed-are, bits-are, size-as, lt-leb _ _ h)
 
       pub answered : {to : List ℕ} → to ≡ packed (bitsOf (table p inter format c)) d → (n + 7) / 8 ≤ length d → _≡_ {A = Outcome} (written 0 n, to) (writeOutcome p inter format d)
       unfolding writeOutcome writeRefusal
-      answered q h = rw (q, le-leb format 3 known, allowed-are, bits-are, size-as, le-leb _ _ h)
+      answered q h = rw (q, known, allowed-are, bits-are, size-as, le-leb _ _ h)

@@ -33,7 +33,7 @@ fn refused(refusal: u32) -> Written
 pub fn write_film_grain_params(p: &[u8; 168], inter: bool, format: u8, dst: &mut [u8]) -> Written
     ensures { λ r. ⌜ (r, now (dst .exit)) ≡ writeOutcome (stored (now (p .entry))) inter format (now (dst .entry)) ⌝ }
 {
-    if 3 < format {
+    if !frame::format_known(format) {
         return refused(4);
     }
     let f = fields_of(p);
