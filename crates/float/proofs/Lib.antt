@@ -8,7 +8,10 @@ mod Fractions
 pub mod Number
 pub mod NearestWhole
 pub mod WholeRoot
+pub mod FirstToLast
+pub mod DigitsOf
 pub mod NearestRoot
+pub mod WorkedDigits
 mod Rounded64
 pub mod Coefficient
 pub mod Mark

@@ -5,7 +5,7 @@
 -- Assumes nothing.
 use mathlib.Core.Path.{_≡_, refl, sym, ap, _∙_, subst}
 use mathlib.Core.Logic.{_⊎_, inl, inr}
-use Prim.Native.Nat.{ℕ, suc, _+_, _-_, _*_, _/_, _%_, _^_, _≤_, _<_}
+use Prim.Native.Nat.{ℕ, suc, _+_, _-_, _*_, _^_, _≤_, _<_}
 use native.Mathlib.Nat.{add-comm, le-antisymm, le-trans, le-of-eq, le-of-lt, le-of-suc-le-suc, lt-of-le-of-lt, lt-of-lt-of-le, lt-of-not-le, not-le-of-lt, mul-assoc, mul-left-comm, mul-mul-mul-comm, mul-le-mul, mul-le-mul-right, lt-of-mul-lt-mul-right, eq-of-mul-eq-mul-right, sub-add-cancel, add-mul, suc-mul, one-mul}
 use native.Mathlib.Decide.{decLe}
 use native.Mathlib.Omega.{arith}
@@ -15,12 +15,12 @@ use lib.Pow.{pow-add, pow-mono, shl-lt}
 use lib.Ieee.{Float, nan, inf, fin, binary64, down, fits}
 use lib.Ieee.Fits.{down-pos}
 use lib.Ieee.Exact.{HasValue}
-use lib.Ieee.Positive.{den, den-pos, positive, value→cross}
+use lib.Ieee.Positive.{positive}
 use Rattle.float.specs.Root.{wholeRoot, rootOf, root, NearestRoot}
 use Rattle.float.proofs.WholeRoot.{square-suc}
 use Rattle.float.proofs.Units.{fit, zeros, units-of}
 use Rattle.float.proofs.root.Pattern.{pattern}
-use Rattle.float.proofs.root.Normal.{normal, even-part, odd-part, root-of-value}
+use Rattle.float.proofs.root.Normal.{normal, fours, root-of-value, value-once}
 use Rattle.float.proofs.root.Split.{Split, split, from-q, to-next, under-middle, over-middle}
 use Rattle.float.proofs.root.Rounded.{stays, rises}
 use Rattle.float.proofs.root.Bits.{root-fits, root-value}
@@ -129,22 +129,14 @@ split-nearest n s lo hi l u =
     let K : s - 26 ≤ 2000 = omega arith in
     elim (decLe rest q) [ yes h ↦ nearest-down _ (s - 26) q rest p K h | no f ↦ nearest-up _ (s - 26) q rest p K (lt-of-not-le f) ]
 
-normal-nearest : (m s : ℕ) → 2 ^ 52 ≤ m → m < 2 ^ 53 → 1022 ≤ s → s < 3120 → NearestRoot (m * 2 ^ s) (rootOf (m * 2 ^ s))
-normal-nearest m s lo hi l u =
-    elim (decLe (s % 2) 0) [
-      | yes e ↦ subst (λ (N : ℕ). NearestRoot N (rootOf N)) (even-part m s (omega arith)) (split-nearest m (s / 2) lo (omega arith) (omega arith) (omega arith))
-      | no f ↦ subst (λ (N : ℕ). NearestRoot N (rootOf N)) (odd-part m s (λ e. f (le-of-eq e))) (split-nearest (m * 2) (s / 2) (omega arith) (omega arith) (omega arith) (omega arith))
-    ]
-
 -- x is a whole number n / 2 ^ 2148, so its root is that of n in units
 pub under-root : (x : Float) → T (fits binary64 x) → T (positive x) → (n : ℕ) × HasValue x false n (2 ^ 1074 * 2 ^ 1074)
 under-root x t p = let d = normal x (pattern x t p) in (d .m * 2 ^ d .s, d .value)
 
 pub root-nearest : (x : Float) (n : ℕ) → T (fits binary64 x) → T (positive x) → HasValue x false n (2 ^ 1074 * 2 ^ 1074) → NearestRoot n (root x)
 root-nearest x n t p v =
-    let d = normal x (pattern x t p) in
-    let e : d .m * 2 ^ d .s ≡ n = eq-of-mul-eq-mul-right (den x) (den-pos x) (d .m * 2 ^ d .s) n (sym (value→cross x (d .m * 2 ^ d .s) (2 ^ 1074 * 2 ^ 1074) (d .value)) ∙ value→cross x n (2 ^ 1074 * 2 ^ 1074) v) in
-    rw (root-of-value x n p v) (subst (λ (N : ℕ). NearestRoot N (rootOf N)) e (normal-nearest (d .m) (d .s) (d .m-lo) (d .m-hi) (d .s-lo) (d .s-hi)))
+    let f = fours x (normal x (pattern x t p)) in
+    rw (root-of-value x n p v) (subst (λ (N : ℕ). NearestRoot N (rootOf N)) (value-once x _ n _ (f .value) v) (split-nearest (f .n) (f .s) (f .n-lo) (f .n-hi) (f .s-lo) (f .s-hi)))
 
 -- and there is one such number
 pub nearest-root-unique : (n : ℕ) (y z : Float) (p : NearestRoot n y) (q : NearestRoot n z) → p .units ≡ q .units

@@ -2,8 +2,9 @@
 -- `twiceRoot n` lies to every even number 2b as n to b² (`twice-lt`, `twice-le`, `twice-ge`, `twice-gt`). Assumes nothing.
 use mathlib.Core.Path.{_≡_, refl, sym, ap, _∙_, subst}
 use mathlib.Core.Logic.{_⊎_, inl, inr}
-use Prim.Native.Nat.{ℕ, zero, suc, _+_, _*_, _/_, _^_, _≤_, _<_, zero-le}
+use Prim.Native.Nat.{ℕ, zero, suc, _+_, _*_, _/_, _%_, _^_, _≤_, _<_, zero-le}
 use native.Mathlib.Nat.{add-zero, le-trans, le-of-eq, le-antisymm, le-of-suc-le-suc, lt-of-lt-of-le, lt-of-le-of-lt, lt-of-not-le, not-le-of-lt, mul-comm, mul-mul-mul-comm, mul-le-mul, mul-le-mul-right, mul-suc, suc-mul, zero-lt-suc, div-mul-le-self, div-lt-iff-lt-mul, pow-suc, pow-le-pow-left}
+use native.Mathlib.Numerals.{add-one}
 use native.Mathlib.Omega.{arith}
 use mathlib.Core.Bool.{Bool, true, false, not, cond}
 use lib.Dec.{T, leb, eqb, leb→le, nleb→lt, eqb→eq, eqb-refl, lit≤}
@@ -23,6 +24,18 @@ pub square-suc : (q : ℕ) → suc q * suc q ≡ q * q + 2 * q + 1
 square-suc q =
     let a : suc q * suc q ≡ q * q + q + suc q = mul-suc (suc q) q ∙ ap (λ (x : ℕ). x + suc q) (suc-mul q q) in
     omega arith
+
+pub odd-square : (q : ℕ) → (2 * q + 1) * (2 * q + 1) ≡ 4 * (q * q) + 4 * q + 1
+odd-square q = ap (λ (x : ℕ). x * x) (add-one (2 * q)) ∙ square-suc (2 * q) ∙ omega (arith, mul-mul-mul-comm 2 q 2 q)
+
+pub square-odd : (r : ℕ) → r % 2 ≡ 1 → r * r % 4 ≡ 1
+square-odd r e =
+    let q = r / 2 in
+    let s : r * r ≡ 4 * (q * q) + 4 * q + 1 = ap (λ (x : ℕ). x * x) (halved r e) ∙ odd-square q in
+    omega arith
+  where
+    halved : (r : ℕ) → r % 2 ≡ 1 → r ≡ 2 * (r / 2) + 1
+    halved r e = omega arith
 
 double-square : (r : ℕ) → 2 * r * (2 * r) ≡ r * r * 4
 double-square r = mul-mul-mul-comm 2 r 2 r ∙ mul-comm 4 (r * r)

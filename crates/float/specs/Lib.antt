@@ -3,6 +3,7 @@ pub mod Magnitude
 pub mod Clamp
 pub mod Round
 pub mod Root
+pub mod WorkedDigits
 pub mod Steps
 pub mod Coefficient
 pub mod Mark

@@ -2,6 +2,7 @@
 use Prim.Native.Nat.{ℕ, zero, suc, _+_, _*_, _/_, _^_, _<_}
 use mathlib.Core.Bool.{false, cond}
 use lib.Dec.{T, leb, eqb}
+use lib.IntN.{ℤ}
 use lib.Ieee.{Float, nan, inf, fin, binary64, up, down, size, round, fits}
 use lib.Ieee.Exact.{HasValue}
 
@@ -24,13 +25,17 @@ unfoldable pub rootOf : ℕ → Float
 unfolding twiceRoot round
 rootOf n = round binary64 false (twiceRoot n) (2 * 2 ^ 1074)
 
+-- m × 2 ^ e in units of 2 ^ -2148, whose root is a number of units of 2 ^ -1074
+abbrev pub underRoot : ℕ → ℤ → ℕ
+underRoot m e = m * up e * (2 ^ 1074 * 2 ^ 1074) / down e
+
 -- the root of a float: NaN of a negative number, and a zero keeps its sign
 unfoldable pub root : Float → Float
 unfolding rootOf
 root nan = nan
 root (inf s) = cond s nan (inf false)
 root (fin s zero e) = fin s zero e
-root (fin s (suc m) e) = cond s nan (rootOf (suc m * up e * (2 ^ 1074 * 2 ^ 1074) / down e))
+root (fin s (suc m) e) = cond s nan (rootOf (underRoot (suc m) e))
 
 -- z is the f64 nearest to the root of n, all in units of 2 ^ -1074: seen from any other f64, of b units, the root lies past the middle, (b + units) / 2. So there is no tie.
 pub record NearestRoot (n : ℕ) (z : Float) : Type 0 where

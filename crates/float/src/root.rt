@@ -1,29 +1,32 @@
 // The correctly rounded root of an f64, digit by digit.
 ghost use mathlib.Core.Path.{_≡_};
 ghost use mathlib.Core.Bool.{false};
-ghost use Prim.Native.Nat.{_-_, _*_, _^_, _<_};
+ghost use Prim.Native.Nat.{_-_, _*_, _^_, _≤_, _<_};
 ghost use lib.Dec.{T};
 ghost use lib.Ieee.Exact.{HasValue};
 ghost use lib.Ieee.Positive.{positive};
 ghost use Rattle.float.specs.Root.{wholeRoot, root};
+ghost use Rattle.float.specs.WorkedDigits.{digitsOf, workedRoot};
 ghost use Rattle.float.specs.Digits.{FullDigits, EvenDigits};
 
 // The binary digits of an f64, and 2^52, which has that many.
-const DIGITS: u64 = 53;
+const DIGITS: u32 = 53;
 
 const LEAD: u64 = 4503599627370496;
 
-// A root cut to a whole number, and the rest, what the number under the root has above its square.
+// A root cut to a whole number; the rest, what the number under the root has above its square; and
+// how many digits were worked.
 struct Digits {
     root: u64,
     rest: u64,
+    worked: u32,
 }
 
 // The root of m * 2^52: its 53 binary digits one at a time, the highest first. It ends as soon as
 // nothing remains, and the other digits are zeros.
 fn root_digits(m: u64) -> Digits
-    requires { ⌜ m < 2 ^ 54 ⌝ }
-    ensures { λ r. ⌜ (r .root ≡ wholeRoot (m * 2 ^ 52)) × (r .rest ≡ m * 2 ^ 52 - r .root * r .root) ⌝ }
+    requires { ⌜ (2 ^ 52 ≤ m) × (m < 2 ^ 54) ⌝ }
+    ensures { λ r. ⌜ (r .root ≡ wholeRoot (m * 2 ^ 52)) × (r .rest ≡ m * 2 ^ 52 - r .root * r .root) × (r .worked ≡ digitsOf (m * 2 ^ 52)) ⌝ }
 {
     let mut q = 0;
     let mut rest = 0;
@@ -34,6 +37,7 @@ fn root_digits(m: u64) -> Digits
             return Digits {
                 root: filled,
                 rest: 0,
+                worked: i,
             };
         }
         rest = rest * 4 + left / LEAD;
@@ -45,7 +49,11 @@ fn root_digits(m: u64) -> Digits
             q = q + 1;
         }
     }
-    Digits { root: q, rest }
+    Digits {
+        root: q,
+        rest,
+        worked: DIGITS,
+    }
 }
 
 // The number m * 2^s.
@@ -97,10 +105,17 @@ fn even(m: u64, s: u64) -> Scaled
     }
 }
 
+// A root, and how many of its binary digits were worked.
+#[repr(C)]
+pub struct Root {
+    pub value: f64,
+    pub digits: u32,
+}
+
 // The root of x, finite and above zero: 53 digits, rounded up where the rest is above them.
-fn positive_root(x: f64) -> f64
+fn positive_root(x: f64) -> Root
     requires { ⌜ T (positive x) ⌝ }
-    ensures { λ r. ⌜ r ≡ root x ⌝ }
+    ensures { λ r. ⌜ r ≡ workedRoot x ⌝ }
 {
     let a = unpacked(x);
     let b = even(a.m, a.s);
@@ -109,23 +124,45 @@ fn positive_root(x: f64) -> f64
     let q = d.root;
     let rest = d.rest;
     if q < rest {
-        return f64::from_bits(k + (q + 1));
+        return Root {
+            value: f64::from_bits(k + (q + 1)),
+            digits: d.worked,
+        };
     }
-    f64::from_bits(k + q)
+    Root {
+        value: f64::from_bits(k + q),
+        digits: d.worked,
+    }
+}
+
+// A root of which no digit is worked.
+fn unworked(value: f64) -> Root
+    ensures { λ r. ⌜ r ≡ record { value = value; digits = 0 } ⌝ }
+{
+    Root { value, digits: 0 }
+}
+
+// The root of x, correctly rounded, and how many of its digits were worked: from the first 1 to the
+// last if the root is exact, else 53; none where x is not a finite number above 0.
+pub fn sqrt_digits(x: f64) -> Root
+    ensures { λ r. ⌜ r ≡ workedRoot x ⌝ }
+{
+    if x > 0.0 {
+        if x < 1.0 / 0.0 {
+            return positive_root(x);
+        }
+        return unworked(x);
+    }
+    if x == 0.0 {
+        return unworked(x);
+    }
+    unworked(0.0 / 0.0)
 }
 
 // The root of x, correctly rounded. Rust's `sqrt`.
 pub fn sqrt(x: f64) -> f64
     ensures { λ r. ⌜ r ≡ root x ⌝ }
 {
-    if x > 0.0 {
-        if x < 1.0 / 0.0 {
-            return positive_root(x);
-        }
-        return x;
-    }
-    if x == 0.0 {
-        return x;
-    }
-    0.0 / 0.0
+    let r = sqrt_digits(x);
+    r.value
 }

@@ -1,8 +1,8 @@
--- A finite f64 above zero is m × 2 ^ s / 2 ^ 2148 with an m of 53 digits (`normal`), and so n × 4 ^ h / 2 ^ 2148 with an n of 53 or 54 (`even-part`, `odd-part`).
+-- A finite f64 above zero is m × 2 ^ s / 2 ^ 2148 with an m of 53 digits (`normal`), and so n × 4 ^ h / 2 ^ 2148 with an n of 53 or 54 (`fours`).
 -- In units of 2 ^ -1074 it is c × 2 ^ k by its bit pattern, and a c with fewer than 53 digits is moved up. Assumes nothing.
 use mathlib.Core.Path.{_≡_, refl, sym, ap, _∙_, subst}
 use Prim.Native.Nat.{ℕ, zero, suc, _+_, _-_, _*_, _/_, _%_, _^_, _≤_, _<_, zero-le}
-use native.Mathlib.Nat.{le-antisymm, le-of-suc-le-suc, le-trans, le-of-eq, lt-of-lt-of-le, lt-of-not-le, not-le-of-lt, mul-assoc, mul-one, mul-le-mul-right, mul-right-comm, mul-div-cancel, add-sub-of-le}
+use native.Mathlib.Nat.{le-antisymm, le-of-suc-le-suc, le-trans, le-of-eq, lt-of-lt-of-le, lt-of-not-le, not-le-of-lt, mul-assoc, mul-one, mul-le-mul-right, mul-right-comm, mul-div-cancel, add-sub-of-le, eq-of-mul-eq-mul-right}
 use native.Mathlib.Decide.{decLe}
 use native.Mathlib.Omega.{arith}
 use mathlib.Core.Bool.{true, false}
@@ -13,6 +13,7 @@ use lib.Ieee.Digits.{size-lt, size-le, size-reaches}
 use lib.Ieee.Exact.{HasValue}
 use lib.Ieee.Positive.{num, den, den-pos, positive, value→cross}
 use Rattle.float.specs.Root.{root, rootOf}
+use Rattle.float.specs.WorkedDigits.{digitsOf, workedDigits}
 use Rattle.float.proofs.root.Pattern.{Pattern}
 
 -- ---- the number under the root
@@ -34,9 +35,26 @@ root-of-number (fin true m e) p = absurd p
 root-of-number (fin false zero e) p = absurd p
 root-of-number (fin false (suc m) e) p = refl
 
-pub root-of-value : (x : Float) (n : ℕ) → T (positive x) → HasValue x false n (2 ^ 1074 * 2 ^ 1074) → root x ≡ rootOf n
-root-of-value x n p v =
-    root-of-number x p ∙ ap rootOf (ap (λ (y : ℕ). y / den x) (value→cross x n (2 ^ 1074 * 2 ^ 1074) v) ∙ mul-div-cancel n (den-pos x))
+digits-of-number : (x : Float) → T (positive x) → workedDigits x ≡ digitsOf (num x * (2 ^ 1074 * 2 ^ 1074) / den x)
+unfolding workedDigits
+digits-of-number nan p = absurd p
+digits-of-number (inf s) p = absurd p
+digits-of-number (fin true m e) p = absurd p
+digits-of-number (fin false zero e) p = absurd p
+digits-of-number (fin false (suc m) e) p = refl
+
+module _ (x : Float) (n : ℕ) (p : T (positive x)) (v : HasValue x false n (2 ^ 1074 * 2 ^ 1074)) where
+  number-is : num x * (2 ^ 1074 * 2 ^ 1074) / den x ≡ n
+  number-is = ap (λ (y : ℕ). y / den x) (value→cross x n (2 ^ 1074 * 2 ^ 1074) v) ∙ mul-div-cancel n (den-pos x)
+
+  pub root-of-value : root x ≡ rootOf n
+  root-of-value = root-of-number x p ∙ ap rootOf number-is
+
+  pub digits-of-value : workedDigits x ≡ digitsOf n
+  digits-of-value = digits-of-number x p ∙ ap digitsOf number-is
+
+pub value-once : (x : Float) (a b c : ℕ) → HasValue x false a c → HasValue x false b c → a ≡ b
+value-once x a b c v w = eq-of-mul-eq-mul-right (den x) (den-pos x) a b (sym (value→cross x a c v) ∙ value→cross x b c w)
 
 pub moved : (m h s : ℕ) → h ≤ s → m * 2 ^ h * 2 ^ (s - h) ≡ m * 2 ^ s
 moved m h s l = mul-assoc m (2 ^ h) (2 ^ (s - h)) ∙ ap (λ (x : ℕ). m * x) (sym (pow-add 2 h (s - h)) ∙ ap (λ (x : ℕ). 2 ^ x) (add-sub-of-le l))
@@ -110,3 +128,35 @@ odd-part m s e =
     let h : 1 + (s / 2 + s / 2) ≡ s = omega arith in
     mul-assoc m 2 (2 ^ (s / 2) * 2 ^ (s / 2))
     ∙ ap (λ (x : ℕ). m * x) (ap (λ (x : ℕ). 2 * x) (sym (pow-add 2 (s / 2) (s / 2))) ∙ sym (pow-add 2 1 (s / 2 + s / 2)) ∙ ap (λ (x : ℕ). 2 ^ x) h)
+
+pub record Fours (x : Float) : Type 0 where
+  pub n : ℕ
+  pub s : ℕ
+  pub value : HasValue x false (n * (2 ^ s * 2 ^ s)) (2 ^ 1074 * 2 ^ 1074)
+  pub n-lo : 2 ^ 52 ≤ n
+  pub n-hi : n < 2 ^ 54 - 1
+  pub s-lo : 27 ≤ s
+  pub s-hi : s < 1560
+
+pub fours : (x : Float) → Normal x → Fours x
+fours x d =
+    elim (decLe (d .s % 2) 0) [
+      | yes e ↦ record {
+        n = d .m;
+        s = d .s / 2;
+        value = subst (λ (a : ℕ). HasValue x false a (2 ^ 1074 * 2 ^ 1074)) (sym (even-part (d .m) (d .s) (omega arith))) (d .value);
+        n-lo = d .m-lo;
+        n-hi = omega (arith, d .m-hi);
+        s-lo = omega (arith, d .s-lo);
+        s-hi = omega (arith, d .s-hi);
+      }
+      | no f ↦ record {
+        n = d .m * 2;
+        s = d .s / 2;
+        value = subst (λ (a : ℕ). HasValue x false a (2 ^ 1074 * 2 ^ 1074)) (sym (odd-part (d .m) (d .s) (λ e. f (le-of-eq e)))) (d .value);
+        n-lo = omega (arith, d .m-lo);
+        n-hi = omega (arith, d .m-hi);
+        s-lo = omega (arith, d .s-lo);
+        s-hi = omega (arith, d .s-hi);
+      }
+    ]

@@ -2,11 +2,10 @@
 use mathlib.Core.Path.{_≡_, sym, ap, _∙_, subst}
 use Prim.Native.Nat.{ℕ, suc, _+_, _-_, _*_, _^_, _≤_, _<_}
 use native.Mathlib.Nat.{le-trans, le-of-eq, lt-of-le-of-lt, lt-of-lt-of-le, lt-of-not-le, mul-assoc, mul-mul-mul-comm, mul-le-mul-right, mul-lt-mul-of-pos-right, mul-pos, add-sub-of-le}
-use native.Mathlib.Numerals.{add-one}
 use native.Mathlib.Omega.{arith}
 use lib.Pow.{pow-pos, pow-add}
 use Rattle.float.specs.Root.{wholeRoot}
-use Rattle.float.proofs.WholeRoot.{root-low, root-high, square-le, square-lt, square-suc}
+use Rattle.float.proofs.WholeRoot.{root-low, root-high, square-le, square-lt, square-suc, odd-square}
 
 pub record Split (N k q rest : ℕ) : Type 0 where
   pub P : ℕ
@@ -18,6 +17,13 @@ pub record Split (N k q rest : ℕ) : Type 0 where
   pub q-lo : 2 ^ 52 ≤ q
   pub q-hi : q < 2 ^ 53
   pub no-carry : q < rest → suc q < 2 ^ 53
+
+-- the number that the digits are taken of, before a power of four
+pub in-fours : (n s : ℕ) → 26 ≤ s → n * (2 ^ s * 2 ^ s) ≡ n * 2 ^ 52 * (2 ^ (s - 26) * 2 ^ (s - 26))
+in-fours n s l =
+    ap (λ (x : ℕ). n * (x * x)) (ap (λ (x : ℕ). 2 ^ x) (sym (add-sub-of-le l)) ∙ pow-add 2 26 (s - 26))
+    ∙ ap (λ (x : ℕ). n * x) (mul-mul-mul-comm (2 ^ 26) (2 ^ (s - 26)) (2 ^ 26) (2 ^ (s - 26)))
+    ∙ sym (mul-assoc n (2 ^ 52) (2 ^ (s - 26) * 2 ^ (s - 26)))
 
 pub split : (n s q rest : ℕ) → 2 ^ 52 ≤ n → n < 2 ^ 54 - 1 → 27 ≤ s → q ≡ wholeRoot (n * 2 ^ 52) → rest ≡ n * 2 ^ 52 - q * q
     → Split (n * (2 ^ s * 2 ^ s)) (s - 26) q rest
@@ -63,9 +69,6 @@ split n s q rest lo hi l e d = record {
     -- n is not the largest number of 54 digits
     clash : q ≡ 2 ^ 53 - 1 → q < rest → ⊥
     clash g h = let a : q * q ≡ (2 ^ 53 - 1) * (2 ^ 53 - 1) = ap (λ (x : ℕ). x * x) g in omega arith
-
-pub odd-square : (q : ℕ) → (2 * q + 1) * (2 * q + 1) ≡ 4 * (q * q) + 4 * q + 1
-odd-square q = ap (λ (x : ℕ). x * x) (add-one (2 * q)) ∙ square-suc (2 * q) ∙ omega (arith, mul-mul-mul-comm 2 q 2 q)
 
 module _ (N k q rest : ℕ) (s : Split N k q rest) where
   w-pos : 0 < s .w * s .w

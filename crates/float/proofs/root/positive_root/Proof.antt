@@ -1,14 +1,17 @@
--- `float::root::positive_root` meets its contract: x is n × 4 ^ s / 2 ^ 2148 by the first two calls, and the digits and the rest of the third say how its root rounds. Assumes nothing.
-use mathlib.Core.Path.{_≡_, sym, subst, _∙_}
+-- `float::root::positive_root` meets its contract: x is n × 4 ^ s / 2 ^ 2148 by the first two calls, the digits and the rest of the third say how its root rounds, and how many of them were worked is the same for x. Assumes nothing.
+use mathlib.Core.Path.{_≡_, sym, ap, subst, _∙_}
 use Prim.Native.Nat.{ℕ, _+_, _-_, _*_, _^_, _≤_, _<_}
 use native.Mathlib.Numerals.{add-one}
 use native.Mathlib.Omega.{arith}
 use mathlib.Core.Bool.{false}
+use lib.Ieee.{Float}
 use lib.Ieee.Exact.{HasValue}
 use borrow.Author.Needs.{needs}
 use Rattle.float.specs.Root.{root, rootOf}
-use Rattle.float.proofs.root.Normal.{root-of-value}
-use Rattle.float.proofs.root.Split.{Split, split}
+use Rattle.float.specs.WorkedDigits.{digitsOf, workedDigits, workedRoot}
+use Rattle.float.proofs.DigitsOf.{digits-scaled}
+use Rattle.float.proofs.root.Normal.{root-of-value, digits-of-value}
+use Rattle.float.proofs.root.Split.{Split, in-fours, split}
 use Rattle.float.proofs.root.Rounded.{Rooted, stays, rises}
 use Rattle.float.proofs.root.Bits.{from-bits, no-nan-bits}
 use Rattle.float.proofs.root.positive_root.Statement.{statement}
@@ -24,10 +27,11 @@ s-of c = c .before .even .result .s
 abbrev N-of : tie.After-root-digits → ℕ
 N-of c = n-of c * (2 ^ s-of c * 2 ^ s-of c)
 
+value-of : (c : tie.After-root-digits) → HasValue (c .before .before .before .args .x) false (N-of c) (2 ^ 1074 * 2 ^ 1074)
+value-of c = subst (λ (a : ℕ). HasValue (c .before .before .before .args .x) false a (2 ^ 1074 * 2 ^ 1074)) (sym (c .before .even .ensures .0)) (c .before .before .unpacked .ensures .0)
+
 root-is : (c : tie.After-root-digits) → root (c .before .before .before .args .x) ≡ rootOf (N-of c)
-root-is c =
-    root-of-value (c .before .before .before .args .x) (N-of c) (c .before .before .before .pre)
-    (subst (λ (a : ℕ). HasValue (c .before .before .before .args .x) false a (2 ^ 1074 * 2 ^ 1074)) (sym (c .before .even .ensures .0)) (c .before .before .unpacked .ensures .0))
+root-is c = root-of-value (c .before .before .before .args .x) (N-of c) (c .before .before .before .pre) (value-of c)
 
 abbrev q-of : tie.After-root-digits → ℕ
 q-of c = c .root-digits .result .root
@@ -46,17 +50,34 @@ down c h = stays _ _ _ _ (parts c) h
 small : (c : tie.After-root-digits) → s-of c - 26 ≤ 2000
 small c = omega (arith, c .before .even .ensures .1 .high)
 
-float-from-bits-result : tie.Need-float-from-bits-result
-float-from-bits-result c = let a = c .before .before in no-nan-bits (N-of a) (q-of a + 1) (s-of a - 26) (up a (c .if1 .taken)) (small a)
+-- ---- the count
+worked : (c : tie.After-root-digits) → c .root-digits .result .worked ≡ workedDigits (c .before .before .before .args .x)
+worked c =
+    let n = n-of c in
+    let t = s-of c - 26 in
+    c .root-digits .ensures .2
+    ∙ sym (digits-scaled (n * 2 ^ 52) t (omega (arith, c .before .even .ensures .1 .lead)))
+    ∙ ap digitsOf (sym (in-fours n (s-of c) (omega (arith, c .before .even .ensures .1 .low))))
+    ∙ sym (digits-of-value (c .before .before .before .args .x) (N-of c) (c .before .before .before .pre) (value-of c))
+
+answer : (v : Float) (d : ℕ) (x : Float) → v ≡ root x → d ≡ workedDigits x → record { value = v; digits = d } ≡ workedRoot x
+answer v d x e f = rw (e, f)
+
+float-from-bits-t12 : tie.Need-float-from-bits-t12
+float-from-bits-t12 c = let a = c .before .before in no-nan-bits (N-of a) (q-of a + 1) (s-of a - 26) (up a (c .if1 .taken)) (small a)
 
 returns : tie.Need-returns
-returns c = let a = c .before .before in from-bits (N-of a) (q-of a + 1) (s-of a - 26) (up a (c .if1 .taken)) (small a) ∙ sym (root-is a)
+returns c =
+    let a = c .before .before in
+    answer _ _ (a .before .before .before .args .x) (from-bits (N-of a) (q-of a + 1) (s-of a - 26) (up a (c .if1 .taken)) (small a) ∙ sym (root-is a)) (worked a)
 
-float-from-bits-result-2 : tie.Need-float-from-bits-result-2
-float-from-bits-result-2 c = let a = c .before .before in no-nan-bits (N-of a) (q-of a) (s-of a - 26) (down a (c .if1 .left)) (small a)
+float-from-bits-t13 : tie.Need-float-from-bits-t13
+float-from-bits-t13 c = let a = c .before .before in no-nan-bits (N-of a) (q-of a) (s-of a - 26) (down a (c .if1 .left)) (small a)
 
 returns-2 : tie.Need-returns-2
-returns-2 c = let a = c .before .before in from-bits (N-of a) (q-of a) (s-of a - 26) (down a (c .if1 .left)) (small a) ∙ sym (root-is a)
+returns-2 c =
+    let a = c .before .before in
+    answer _ _ (a .before .before .before .args .x) (from-bits (N-of a) (q-of a) (s-of a - 26) (down a (c .if1 .left)) (small a) ∙ sym (root-is a)) (worked a)
 
 pub positive-root-spec : {M : Type 1} → statement M
 positive-root-spec =
@@ -69,8 +90,8 @@ positive-root-spec =
     (λ c. search needs)
     (λ c. search needs)
     (λ c. omega (arith, small (c .before .before), up (c .before .before) (c .if1 .taken) .hi))
-    float-from-bits-result
+    float-from-bits-t12
     returns
     (λ c. omega (arith, small (c .before .before), down (c .before .before) (c .if1 .left) .hi))
-    float-from-bits-result-2
+    float-from-bits-t13
     returns-2)

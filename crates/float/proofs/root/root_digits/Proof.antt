@@ -14,9 +14,9 @@ abbrev μ-loop : tie.MeasureT-loop
 
 returns : tie.Need-returns Inv-loop μ-loop
 returns c =
-    let i = c .before .before .loop .i in
-    let q = c .before .before .loop .q in
-    ended (c .before .before .before .args .m) q (c .before .before .loop .rest) (c .before .before .loop .left) i (c .before .before .loop .inv) (c .if1 .taken)
+    let a = c .before .before .before in
+    let l = c .before .before .loop in
+    ended (a .args .m) (l .q) (l .rest) (l .left) (l .i) (a .pre .0) (l .inv) (c .if1 .taken)
 
 loop-again : tie.Need-loop-again Inv-loop μ-loop
 loop-again c =
@@ -25,13 +25,14 @@ loop-again c =
     let i = l .i in
     ⊎-elim
     (λ w. rw (w .1, w .2) (one-digit m (l .q) (l .rest) (l .left) i (l .inv) (c .before .before .loop-test .taken) (w .0 .taken)))
-    (λ w. rw (w .1, w .2) (zero-digit m (l .q) (l .rest) (l .left) i (l .inv) (c .before .before .loop-test .taken) (w .0 .left)))
+    (λ w. rw (w .1, w .2) (zero-digit m (l .q) (l .rest) (l .left) i (l .inv) (c .before .before .loop-test .taken) (c .before .if1 .left) (w .0 .left)))
     (c .if2 .came)
 
 returns-2 : tie.Need-returns-2 Inv-loop μ-loop
 returns-2 c =
+    let a = c .before .before in
     let l = c .before .loop in
-    done (c .before .before .args .m) (l .q) (l .rest) (l .left) (l .i) (l .inv) (c .loop-test .left)
+    done (a .args .m) (l .q) (l .rest) (l .left) (l .i) (a .pre .0) (l .inv) (c .loop-test .left)
 
 pub root-digits-spec : {M : Type 1} → statement M
 root-digits-spec =
@@ -39,7 +40,8 @@ root-digits-spec =
     (tie.spec
     Inv-loop
     μ-loop
-    (λ c. start (c .args .m) (c .pre))
+    (λ c. start (c .args .m) (c .pre .0) (c .pre .1))
+    (λ c. omega arith)
     (λ c. omega arith)
     (λ c. omega arith)
     (λ c. omega arith)
