@@ -4,12 +4,13 @@ use lib.Ieee.{mul, div, round, ofInt, ofBits, toSigned, toUnsigned}
 use Rattle.table.specs.Cases.{Right}
 use Rattle.float.specs.Round.{roundHalfAway}
 use Rattle.float.specs.Root.{root}
+use Rattle.float.specs.WorkedDigits.{workedDigits}
 use Rattle.float.specs.Steps.{quantAr, sigma16Of}
 use Rattle.float.specs.Coefficient.{coefficient}
 use Rattle.float.specs.Mark.{mark}
 use Rattle.float.specs.Reading.{quantise}
 use Rattle.float.specs.Sigma.{wholeSigma16, sumOfSquares}
-use Rattle.table.specs.Float.{sigma, wholeSigma, sigmaCases, coefficientCases, markCases, rootCases, roundCases}
+use Rattle.table.specs.Float.{sigma, wholeSigma, sigmaCases, coefficientCases, markCases, rootCases, digitCases, roundCases}
 
 pub sigma-cases-right : Right sigma sigmaCases
 unfolding sigma16Of sumOfSquares mul div ofInt ofBits toUnsigned
@@ -34,6 +35,10 @@ mark-cases-right = (refl, (refl, (refl, (refl, (refl, (refl, (refl, (refl, (refl
 pub root-cases-right : Right root rootCases
 unfolding root ofBits
 root-cases-right = (refl, (refl, (refl, (refl, (refl, (refl, (refl, (refl, (refl, (refl, tt))))))))))
+
+pub digit-cases-right : Right workedDigits digitCases
+unfolding workedDigits ofBits
+digit-cases-right = (refl, (refl, (refl, (refl, (refl, (refl, (refl, (refl, (refl, (refl, (refl, (refl, (refl, (refl, (refl, (refl, (refl, (refl, (refl, tt)))))))))))))))))))
 
 pub round-cases-right : Right roundHalfAway roundCases
 unfolding roundHalfAway round ofBits

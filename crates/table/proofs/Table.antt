@@ -28,6 +28,7 @@ table =
       coefficients = Float.coefficient-cases-right;
       marks = Float.mark-cases-right;
       roots = Float.root-cases-right;
+      root-digits = Float.digit-cases-right;
       rounded = Float.round-cases-right;
       solver = Solver.cases-right;
       order = Positions.orders-right;

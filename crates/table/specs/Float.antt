@@ -1,5 +1,5 @@
--- "Marked * are proved, and make up a table": the rows on sigma16 and on coefficients, with marks, roots and rounded numbers beside them.
-use Prim.Native.Nat.{ℕ, _*_}
+-- "Marked * are proved, and make up a table": the rows on sigma16 and on coefficients, with marks, roots and their digits, and rounded numbers beside them.
+use Prim.Native.Nat.{ℕ, _+_, _*_, _^_}
 use mathlib.Core.Bool.{true, false}
 use mathlib.Core.List.{List, [], _∷_}
 use lib.IntN.{ℤ, pos, negsuc, negℤ}
@@ -84,6 +84,31 @@ rootCases =
     row nan nan ∷
     row (inf false) (inf false) ∷
     row (inf true) nan ∷
+    []
+
+-- Digits worked for a root: of 1, 4, 9/4, 9 and 2; of both zeros, −1, the infinities and NaN; of the smallest f64, twice and nine times that; of the largest.
+-- (2 ^ 26 + 1)² is 2 ^ 52 + 2 ^ 27 + 1, below 2 ^ 53 and so an f64: of it, of the f64 after it, of twice it; and of 94,906,265², the last odd square below 2 ^ 53.
+abbrev pub digitCases : List (Case Float ℕ)
+digitCases =
+    row (whole 1) 1 ∷
+    row (whole 4) 1 ∷
+    row (fin false 9 (negsuc 1)) 2 ∷
+    row (whole 9) 2 ∷
+    row (whole 2) 53 ∷
+    row (whole 0) 0 ∷
+    row (minus 0) 0 ∷
+    row (minus 1) 0 ∷
+    row (inf false) 0 ∷
+    row (inf true) 0 ∷
+    row nan 0 ∷
+    row (fin false 1 (negsuc 1073)) 1 ∷
+    row (fin false 2 (negsuc 1073)) 53 ∷
+    row (fin false 9 (negsuc 1073)) 2 ∷
+    row (ofBits binary64 0x7fef_ffff_ffff_ffff) 53 ∷
+    row (whole ((2 ^ 26 + 1) * (2 ^ 26 + 1))) 27 ∷
+    row (whole (2 ^ 52 + 2 ^ 27 + 2)) 53 ∷
+    row (whole (2 * (2 ^ 52 + 2 ^ 27 + 1))) 53 ∷
+    row (whole (94_906_265 * 94_906_265)) 27 ∷
     []
 
 -- Rounded numbers: ±1/2, ±5/2, the f64 below 1/2, −0.3, 2 ^ 52 − 1/2, 2 ^ 52 + 1, −0, NaN and an infinity.

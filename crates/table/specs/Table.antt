@@ -1,6 +1,7 @@
 -- "Marked * are proved, and make up a table", "as rows of a table under a common statement": the table, in the scope's order, with other rows on the way.
 use Rattle.float.specs.Round.{roundHalfAway}
 use Rattle.float.specs.Root.{root}
+use Rattle.float.specs.WorkedDigits.{workedDigits}
 use Rattle.float.specs.Steps.{quantAr}
 use Rattle.float.specs.Coefficient.{coefficient}
 use Rattle.float.specs.Reading.{quantise}
@@ -35,11 +36,12 @@ pub record Table : Type 0 where
   -- bins, and how many samples a bin wants
   pub bins : Right Profile.bin Profile.binCases
   pub least-counts : Right Profile.least Profile.leastCases
-  -- * coefficients, by the Rust's steps and in words; coefficients with their marks; roots and rounded numbers
+  -- * coefficients, by the Rust's steps and in words; coefficients with their marks; roots, the digits worked for them, and rounded numbers
   pub quantised : Right quantAr Float.coefficientCases
   pub coefficients : Right coefficient Float.coefficientCases
   pub marks : Right quantise Float.markCases
   pub roots : Right root Float.rootCases
+  pub root-digits : Right workedDigits Float.digitCases
   pub rounded : Right roundHalfAway Float.roundCases
   -- * solver
   pub solver : Right Solver.solved Solver.cases
