@@ -1,19 +1,19 @@
--- The digit loop of `root_digits`, on plain numbers. After i turns q has the first i digits of the root of m × 2 ^ 52.
+-- The digit loop of `root_digits`, on plain numbers. After i turns q has the first i of the 53 digits of the root of m × 2 ^ 52 (`first-digits`).
 -- * Two digits of m go with each of them: those taken are q² + rest, and `left` has the others, at the top of 54 bits.
 -- * A digit is 1 exactly if (2q + 1)², the square with it, is no more than the digits taken: 4q + 1 ≤ 4 rest + the next two (`one-digit`, `zero-digit`).
 -- * Where nothing remains the other digits are zeros. The last digit taken is then a 1, for with a 0 nothing would have remained before it (`last`), and the first is a 1 since m has 53 digits or 54. So those taken are the ones from the root's first 1 to its last (`ended`).
 -- * Where 53 digits are taken, either something remains, and the root isn't exact, or its last digit is the 53rd (`done`).
 -- Assumes nothing.
-use mathlib.Core.Path.{_≡_, refl, sym, ap, _∙_}
+use mathlib.Core.Path.{_≡_, refl, sym, ap, _∙_, subst}
 use Prim.Native.Nat.{ℕ, zero, suc, _+_, _-_, _*_, _/_, _%_, _^_, _≤_, _<_}
-use native.Mathlib.Nat.{add-sub-of-le, le-trans, mod-eq-of-lt, mul-assoc, mul-le-mul-right, mul-right-comm, mul-mul-mul-comm, mul-one, pow-suc}
+use native.Mathlib.Nat.{add-sub-of-le, le-trans, le-of-eq, lt-of-le-of-lt, lt-of-lt-of-le, div-eq-of-lt-le, mul-lt-mul-of-pos-right, mul-pos, mod-eq-of-lt, mul-assoc, mul-le-mul-right, mul-right-comm, mul-mul-mul-comm, mul-one, pow-suc}
 use native.Mathlib.Numerals.{add-one}
 use native.Mathlib.Decide.{decLe}
 use native.Mathlib.Omega.{arith}
-use lib.Pow.{pow-mono, pow-add, shl-lt}
+use lib.Pow.{pow-pos, pow-mono, pow-add, shl-lt}
 use Rattle.float.specs.Root.{wholeRoot}
 use Rattle.float.specs.WorkedDigits.{digitsOf, FirstToLast}
-use Rattle.float.proofs.WholeRoot.{root-unique, square-le, square-suc}
+use Rattle.float.proofs.WholeRoot.{root-low, root-high, root-unique, square-le, square-lt, square-suc}
 use Rattle.float.proofs.FirstToLast.{counted, zeros-behind}
 use Rattle.float.proofs.DigitsOf.{whole-square, digits-exact, digits-else}
 
@@ -108,6 +108,40 @@ module _ (m q rest left i : ℕ) (lo : 2 ^ 52 ≤ m) (st : State m q rest left i
       reach : 2 ^ 52 * 4 ^ i ≤ q * q * 2 ^ 54
       reach = le-trans (mul-le-mul-right (4 ^ i) lo) (omega (arith, st .value))
 
+  abbrev j : ℕ
+  j = 53 - i
+
+  -- the digits still to be taken, put behind the number and behind a root
+  behind : m * 4 ^ i * 4 ^ j ≡ m * 2 ^ 52 * 2 ^ 54
+  behind =
+      mul-assoc m (4 ^ i) (4 ^ j)
+      ∙ ap (λ (x : ℕ). m * x) (sym (pow-add 4 i j) ∙ ap (λ (x : ℕ). 4 ^ x) (add-sub-of-le (st .i-le)))
+      ∙ sym (mul-assoc m (2 ^ 52) (2 ^ 54))
+
+  filled-square : (a : ℕ) → a * 2 ^ j * (a * 2 ^ j) * 2 ^ 54 ≡ a * a * 2 ^ 54 * 4 ^ j
+  filled-square a = ap (λ (x : ℕ). x * 2 ^ 54) (mul-mul-mul-comm a (2 ^ j) a (2 ^ j) ∙ ap (λ (x : ℕ). a * a * x) (four j)) ∙ mul-right-comm (a * a) (4 ^ j) (2 ^ 54)
+
+  -- q has the first i of the root's 53 digits
+  pub first-digits : wholeRoot (m * 2 ^ 52) / 2 ^ (53 - i) ≡ q
+  first-digits =
+      let P = m * 2 ^ 52 in
+      let r = wholeRoot P in
+      let low : q * 2 ^ j * (q * 2 ^ j) ≤ P = under (le-trans (le-of-eq (filled-square q)) (le-trans (mul-le-mul-right (4 ^ j) (omega (arith, st .value))) (le-of-eq behind))) in
+      let high : P < suc q * 2 ^ j * (suc q * 2 ^ j) = over (lt-of-le-of-lt (le-of-eq (sym behind)) (lt-of-lt-of-le (mul-lt-mul-of-pos-right next some) (le-of-eq (sym (filled-square (suc q)))))) in
+      div-eq-of-lt-le (2 ^ j) (square-le (q * 2 ^ j) r (lt-of-le-of-lt low (root-high P))) (square-lt r ((q + 1) * 2 ^ j) (lt-of-le-of-lt (root-low P) (rw (add-one q) high)))
+    where
+      under : {a b : ℕ} → a * 2 ^ 54 ≤ b * 2 ^ 54 → a ≤ b
+      under {a} {b} h = omega arith
+
+      over : {a b : ℕ} → a * 2 ^ 54 < b * 2 ^ 54 → a < b
+      over {a} {b} h = omega arith
+
+      some : 0 < 4 ^ j
+      some = subst (λ (x : ℕ). 0 < x) (four j) (mul-pos (pow-pos j) (pow-pos j))
+
+      next : m * 4 ^ i < suc q * suc q * 2 ^ 54
+      next = omega (arith, st .value, st .rest-le, st .left-lt, square-suc q)
+
   pub done : 53 ≤ i → Worked (m * 2 ^ 52) q rest 53
   done h =
       let e : i ≡ 53 = omega arith in
@@ -123,13 +157,12 @@ module _ (m q rest left i : ℕ) (lo : 2 ^ 52 ≤ m) (st : State m q rest left i
 
   pub ended : rest + left ≡ 0 → Worked (m * 2 ^ 52) (q * 2 ^ (53 - i) % 2 ^ 64) 0 i
   ended e =
-      let j = 53 - i in
-      let ij : i + j ≡ 53 = add-sub-of-le (st .i-le) in
-      let under : q * 2 ^ j < 2 ^ 53 = rw ij at (shl-lt i j (st .q-lt)) in
+      let under : q * 2 ^ j < 2 ^ 53 = rw (add-sub-of-le (st .i-le)) at (shl-lt i j (st .q-lt)) in
       let same : q * 2 ^ j % 2 ^ 64 ≡ q * 2 ^ j = mod-eq-of-lt (omega arith) in
       let all : q * q * 2 ^ 54 ≡ m * 4 ^ i = omega (arith, st .value) in
-      let powers : 4 ^ i * 4 ^ j ≡ 2 ^ 106 = sym (pow-add 4 i j) ∙ ap (λ (x : ℕ). 4 ^ x) ij in
-      let square : q * 2 ^ j * (q * 2 ^ j) ≡ q * q * 4 ^ j = mul-mul-mul-comm q (2 ^ j) q (2 ^ j) ∙ ap (λ (x : ℕ). q * q * x) (four j) in
-      let scaled : q * q * 4 ^ j * 2 ^ 54 ≡ m * 2 ^ 106 = mul-right-comm (q * q) (4 ^ j) (2 ^ 54) ∙ ap (λ (x : ℕ). x * 4 ^ j) all ∙ mul-assoc m (4 ^ i) (4 ^ j) ∙ ap (λ (x : ℕ). m * x) powers in
+      let square : q * 2 ^ j * (q * 2 ^ j) ≡ m * 2 ^ 52 = whole (filled-square q ∙ ap (λ (x : ℕ). x * 4 ^ j) all ∙ behind) in
       let r : Rest (m * 2 ^ 52) (q * 2 ^ j) 0 = is-root (m * 2 ^ 52) (q * 2 ^ j) 0 (omega arith) (omega arith) in
-      rw same (r .0, r .1, sym (digits-exact (q * 2 ^ j) (m * 2 ^ 52) (omega arith) ∙ counted (q * 2 ^ j) i (zeros-behind q i j (taken e))))
+      rw same (r .0, r .1, sym (digits-exact (q * 2 ^ j) (m * 2 ^ 52) square ∙ counted (q * 2 ^ j) i (zeros-behind q i j (taken e))))
+    where
+      whole : {a b : ℕ} → a * 2 ^ 54 ≡ b * 2 ^ 54 → a ≡ b
+      whole {a} {b} h = omega arith
