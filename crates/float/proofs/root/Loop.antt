@@ -97,8 +97,8 @@ exact a rest left P v z = omega arith
 nothing : (a rest left P : ℕ) → a + rest ≡ P → left ≡ 0 → a ≡ P → rest + left ≤ 0
 nothing a rest left P v z s = omega arith
 
-abbrev pub Worked : ℕ → ℕ → ℕ → ℕ → Type 0
-Worked P q rest worked = (q ≡ wholeRoot P) × (rest ≡ P - q * q) × (worked ≡ digitsOf P)
+abbrev pub Result : ℕ → ℕ → ℕ → ℕ → Type 0
+Result P q rest worked = (q ≡ wholeRoot P) × (rest ≡ P - q * q) × (worked ≡ digitsOf P)
 
 module _ (m q rest left i : ℕ) (lo : 2 ^ 52 ≤ m) (st : State m q rest left i) where
   -- the digits taken where nothing remains
@@ -142,7 +142,7 @@ module _ (m q rest left i : ℕ) (lo : 2 ^ 52 ≤ m) (st : State m q rest left i
       next : m * 4 ^ i < suc q * suc q * 2 ^ 54
       next = omega (arith, st .value, st .rest-le, st .left-lt, square-suc q)
 
-  pub done : 53 ≤ i → Worked (m * 2 ^ 52) q rest 53
+  pub done : 53 ≤ i → Result (m * 2 ^ 52) q rest 53
   done h =
       let e : i ≡ 53 = omega arith in
       let sum = all-taken m (q * q + rest) left (st .left-lt) (st .value ∙ ap (λ (x : ℕ). m * 4 ^ x) e) in
@@ -155,7 +155,7 @@ module _ (m q rest left i : ℕ) (lo : 2 ^ 52 ≤ m) (st : State m q rest left i
         ]),
       )
 
-  pub ended : rest + left ≡ 0 → Worked (m * 2 ^ 52) (q * 2 ^ (53 - i) % 2 ^ 64) 0 i
+  pub ended : rest + left ≡ 0 → Result (m * 2 ^ 52) (q * 2 ^ (53 - i) % 2 ^ 64) 0 i
   ended e =
       let under : q * 2 ^ j < 2 ^ 53 = rw (add-sub-of-le (st .i-le)) at (shl-lt i j (st .q-lt)) in
       let same : q * 2 ^ j % 2 ^ 64 ≡ q * 2 ^ j = mod-eq-of-lt (omega arith) in
