@@ -22,7 +22,7 @@
 #include <stdint.h>
 
 #define GRAIN_VERSION_MAJOR 0
-#define GRAIN_VERSION_MINOR 3
+#define GRAIN_VERSION_MINOR 4
 #define GRAIN_VERSION_PATCH 0
 
 /* The largest width and height. */
@@ -242,6 +242,19 @@ typedef struct grain_fit {
 grain_fit grain_fit_ar_lag(grain_shape s, const uint16_t *y, size_t y_len, const uint16_t *cb, size_t cb_len,
                            const uint16_t *cr, size_t cr_len, const uint16_t *y_den, size_t y_den_len,
                            const uint16_t *cb_den, size_t cb_den_len, const uint16_t *cr_den, size_t cr_den_len, size_t lag);
+
+/* ---- The root ---- */
+
+/* A root, and how many of its binary digits were worked. */
+typedef struct grain_root {
+    double value;
+    uint32_t digits;
+} grain_root;
+
+/* root(x), correctly rounded; a zero as it is, NaN below 0. Digits of a finite x above 0: those from the root's first 1 to
+ * its last if the root is exact, at most 27, else 53; of any other x none
+ * Asked nothing. */
+grain_root grain_sqrt_digits(double x);
 
 /* ---- Seed and random register ---- */
 

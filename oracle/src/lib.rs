@@ -1,7 +1,7 @@
 //! The Rust that was ported, built from unchanged files, with every ported function in [`reach`].
 //!
 //! `upstream/` has the files as published; `missing` has what they name and the published part lacks. What the Rust keeps
-//! inside of its fits is in [`values`], and what became of it in [`marks`].
+//! inside of its fits is in [`values`], and what became of it in [`marks`]; how many digits a root has is in [`digits`].
 #![allow(dead_code, unused_imports, clippy::all, rustdoc::all)]
 
 mod missing;
@@ -24,6 +24,7 @@ pub mod superres;
 #[path = "../upstream/src/uncompressed_header_tail.rs"]
 pub mod uncompressed_header_tail;
 
+pub mod digits;
 pub mod encoder;
 pub mod marks;
 pub mod values;

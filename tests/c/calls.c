@@ -2,6 +2,7 @@
  * is made in headers.c. */
 #include "check.h"
 
+#include <float.h>
 #include <math.h>
 
 static uint16_t flat[4097];
@@ -485,6 +486,40 @@ static void fit_ar_lag(void)
 #undef FRAME
 }
 
+/* ---- The root ---- */
+
+#define WORKED(x, root, count) \
+    do { \
+        grain_root r_ = grain_sqrt_digits(x); \
+        SAME_F64(r_.value, root); \
+        SAME(r_.digits, count); \
+    } while (0)
+
+static void sqrt_digits(void)
+{
+    WORKED(1.0, 1.0, 1);
+    WORKED(4.0, 2.0, 1);
+    WORKED(2.25, 1.5, 2);
+    WORKED(9.0, 3.0, 2);
+    WORKED(65025.0, 255.0, 8);
+    WORKED(67108865.0 * 67108865.0, 67108865.0, 27); /* (2^26 + 1)^2, below 2^53 */
+    WORKED(2.0, 0x1.6a09e667f3bcdp0, 53);
+    WORKED(0x1p-1074, 0x1p-537, 1);
+    WORKED(0x1p-1073, 0x1.6a09e667f3bcdp-537, 53);
+    WORKED(0x9p-1074, 0x3p-537, 2);
+    WORKED(DBL_MAX, 0x1.fffffffffffffp511, 53);
+    WORKED(0.0, 0.0, 0);
+    WORKED(-0.0, -0.0, 0);
+    WORKED(INFINITY, INFINITY, 0);
+
+    double unrooted[4] = {-1.0, -0x1p-1074, -INFINITY, NAN};
+    for (int i = 0; i < 4; i++) {
+        grain_root r = grain_sqrt_digits(unrooted[i]);
+        SAME(isnan(r.value) != 0, true);
+        SAME(r.digits, 0);
+    }
+}
+
 /* ---- Seed and random register ---- */
 
 static void draws(void)
@@ -535,6 +570,7 @@ int main(void)
     solve_normal();
     ar_positions();
     fit_ar_lag();
+    sqrt_digits();
     draws();
     return ended("calls.c");
 }

@@ -3,6 +3,7 @@
 //! An answer is a list of words: whole numbers as they are, floats by their bits, what may be missing behind a 1 or a 0.
 
 use crate::branches::{self, Branches};
+use crate::floats;
 use crate::headers::rules::{self, Rule};
 use crate::headers::{self, Header};
 use crate::input::{Input, Plane, Planes};
@@ -35,6 +36,8 @@ pub struct Call {
     pub destinations: usize,
     /// Its lag, order, bits, sigma16 or hint, or how many faults its header is drawn with.
     pub number: fn(&mut Random) -> u64,
+    /// The float that it takes.
+    pub float: fn(&mut Random) -> f64,
     /// The header that it writes, of a format and with so many faults.
     pub header: fn(&mut Random, u8, u64) -> Header,
     /// The rules that a run has to meet broken, each by a record that breaks no other.
@@ -66,6 +69,7 @@ impl Call {
             lent: &[],
             destinations: 0,
             number: |_| 0,
+            float: |_| 0.0,
             header: |_, _, _| Header::default(),
             rules: &[],
             share: 1,
@@ -333,6 +337,7 @@ pub const CALLS: &[Call] = &[
         )
     },
     Call {
+        float: floats::coefficient,
         share: 4,
         added: rust::quantiser_mark,
         ..Call::new(
@@ -341,6 +346,19 @@ pub const CALLS: &[Call] = &[
             raw::quant_ar,
             rust::quant_ar,
             branches::QUANTISER,
+        )
+    },
+    Call {
+        float: floats::under_root,
+        share: 4,
+        added: rust::root_digits,
+        timed: &[],
+        ..Call::new(
+            "sqrt_digits",
+            ours::sqrt_digits,
+            raw::sqrt_digits,
+            rust::sqrt_digits,
+            branches::ROOT,
         )
     },
     Call {

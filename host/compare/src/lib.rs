@@ -6,6 +6,7 @@ pub mod calls;
 pub mod case;
 pub mod clock;
 pub mod draw;
+pub mod floats;
 pub mod headers;
 pub mod input;
 pub mod noise;

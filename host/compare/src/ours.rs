@@ -117,7 +117,12 @@ fn quantiser(x: f64) -> [u64; 2] {
 }
 
 pub fn quant_ar(input: &Input, _: &mut Planes) -> Result<Words, Refusal> {
-    Ok(quantiser(input.system.float).into())
+    Ok(quantiser(input.float).into())
+}
+
+pub fn sqrt_digits(input: &Input, _: &mut Planes) -> Result<Words, Refusal> {
+    let found = grain::sqrt_digits(input.float);
+    Ok(vec![float(found.value), found.digits.into()])
 }
 
 pub fn grain_seed_for(input: &Input, _: &mut Planes) -> Result<Words, Refusal> {

@@ -207,7 +207,13 @@ fn quantiser(x: f64) -> [u64; 2] {
 }
 
 pub fn quant_ar(input: &Input, _: &mut Planes) -> Record {
-    Record::full(0, quantiser(input.system.float).into())
+    Record::full(0, quantiser(input.float).into())
+}
+
+pub fn sqrt_digits(input: &Input, _: &mut Planes) -> Record {
+    // SAFETY: a number alone is passed.
+    let found = unsafe { sys::grain_sqrt_digits(input.float) };
+    Record::full(0, vec![float(found.value), found.digits.into()])
 }
 
 pub fn grain_seed_for(input: &Input, _: &mut Planes) -> Record {

@@ -5,7 +5,7 @@ use crate::headers::{bits, read};
 use crate::input::{Input, Planes};
 use crate::words::{coefficients, float, positions, quantised, solution, whole};
 use grain::FilmGrainParams;
-use oracle::{RandomRegister, marks, reach};
+use oracle::{RandomRegister, digits, marks, reach};
 
 /// How often a register is stepped in one case.
 pub const STEPS: usize = 5;
@@ -122,11 +122,19 @@ pub fn solve_and_quantise(input: &Input, _: &mut Planes) -> Words {
 }
 
 pub fn quant_ar(input: &Input, _: &mut Planes) -> Words {
-    vec![whole(reach::quant_ar(input.system.float))]
+    vec![whole(reach::quant_ar(input.float))]
 }
 
 pub fn quantiser_mark(input: &Input) -> Words {
-    vec![marks::quant_ar(input.system.float) as u64]
+    vec![marks::quant_ar(input.float) as u64]
+}
+
+pub fn sqrt_digits(input: &Input, _: &mut Planes) -> Words {
+    vec![float(input.float.sqrt())]
+}
+
+pub fn root_digits(input: &Input) -> Words {
+    vec![digits::sqrt(input.float).into()]
 }
 
 pub fn grain_seed_for(input: &Input, _: &mut Planes) -> Words {

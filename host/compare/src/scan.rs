@@ -1,5 +1,6 @@
 //! A frame pair as a scan has it, for timing: a gradient under noise of about four 8-bit steps, and its denoised copies.
 
+use crate::floats;
 use crate::headers::Header;
 use crate::input::{Input, plane_size};
 use crate::noise::Size;
@@ -29,7 +30,7 @@ fn frame(random: &mut Random, (width, height): Size, depth: u8) -> YuvFrame {
     }
 }
 
-/// Two 4:2:0 frames with their copies, destinations of their size, and equations of a fit.
+/// Two 4:2:0 frames with their copies, destinations of their size, a coefficient, and equations of a fit.
 pub fn pair(size: Size, depth: u8) -> Input {
     let mut random = Random::new(1);
     let frames = [0, 1].map(|_| frame(&mut random, size, depth));
@@ -40,6 +41,7 @@ pub fn pair(size: Size, depth: u8) -> Input {
         depth,
         format: 1,
         number: 0,
+        float: floats::coefficient(&mut random),
         destination: [&frames[0].y, &frames[0].u, &frames[0].v].map(|plane| vec![0; plane.len()]),
         system: System::normal(&mut random),
         header: Header::default(),

@@ -1,28 +1,13 @@
-//! Equations for the solver, and floats for the quantiser: plain ones, nearly singular ones, and every odd value.
+//! Equations for the solver: plain ones, nearly singular ones, and every odd value.
 
+use crate::floats::ODD;
 use crate::random::Random;
 
-/// 25 equations, whatever part of them is used, and one float.
+/// 25 equations, whatever part of them is used.
 pub struct System {
     pub a: Box<[[f64; 25]; 25]>,
     pub b: [f64; 25],
-    pub float: f64,
 }
-
-const ODD: [f64; 12] = [
-    0.0,
-    -0.0,
-    f64::NAN,
-    f64::INFINITY,
-    f64::NEG_INFINITY,
-    f64::MAX,
-    f64::MIN,
-    f64::MIN_POSITIVE,
-    5e-324,
-    1e-9,
-    -1e-9,
-    0.999_999_999e-9,
-];
 
 /// A float of one of the kinds that a solver can meet.
 fn value(random: &mut Random, kind: usize) -> f64 {
@@ -36,27 +21,11 @@ fn value(random: &mut Random, kind: usize) -> f64 {
     }
 }
 
-/// A float whose 64-fold is near a half, an end of the range, or anything at all.
-fn coefficient(random: &mut Random) -> f64 {
-    let any = random.between(-260, 260);
-    let half = (f64::from(random.pick(&[any, any, -129, 127])) + 0.5) / 64.0;
-    match random.below(6) {
-        0 => half,
-        1 => f64::from_bits(half.to_bits() + 1),
-        2 => f64::from_bits(half.to_bits() - 1),
-        3 => random.pick(&ODD),
-        4 => (random.unit() - 0.5) * 6.0,
-        _ => f64::from_bits(random.bits()),
-    }
-}
-
 impl System {
     pub fn new(random: &mut Random, equations: bool) -> System {
-        let float = coefficient(random);
         let mut system = System {
             a: Box::new([[0.0; 25]; 25]),
             b: [0.0; 25],
-            float,
         };
         if equations {
             system.fill(random);

@@ -2,9 +2,13 @@
 
 use crate::calls::Words;
 
-/// A float by its bits; every NaN is one.
+/// A float by its bits; every NaN is one. They are chosen as bits, since a choice between floats that differ as NaNs alone
+/// may be left out by the compiler.
 pub fn float(x: f64) -> u64 {
-    if x.is_nan() { f64::NAN } else { x }.to_bits()
+    match x.is_nan() {
+        true => f64::NAN.to_bits(),
+        false => x.to_bits(),
+    }
 }
 
 pub fn whole(x: i32) -> u64 {

@@ -40,6 +40,7 @@ mod profile;
 mod quant;
 mod random;
 mod refusal;
+mod root;
 #[allow(missing_docs)] // include/grain.h says what each is
 pub mod sys;
 
@@ -53,3 +54,4 @@ pub use profile::{Bin, NoiseEstimate, Profile, noise_estimate, plane_sigma16};
 pub use quant::{Mark, Quantised, quant_ar};
 pub use random::{RandomRegister, grain_seed_for};
 pub use refusal::Refusal;
+pub use root::{Root, sqrt_digits};

@@ -119,6 +119,14 @@ pub struct Fit {
     pub cr_marks: [u8; 25],
 }
 
+/// `grain_root`
+#[repr(C)]
+#[derive(Debug, Clone, Copy)]
+pub struct Root {
+    pub value: f64,
+    pub digits: u32,
+}
+
 /// `grain_random`
 #[repr(C)]
 #[derive(Debug, Clone, Copy)]
@@ -339,6 +347,8 @@ unsafe extern "C" {
         cr_den_len: usize,
         lag: usize,
     ) -> Fit;
+
+    pub fn grain_sqrt_digits(x: f64) -> Root;
 
     pub fn grain_seed_for(order_hint: u32) -> u16;
 

@@ -17,6 +17,7 @@ fn sizes() {
     assert_eq!(size_of::<Solved>(), 216);
     assert_eq!(size_of::<Positions>(), 208);
     assert_eq!(size_of::<Fit>(), 392);
+    assert_eq!(size_of::<Root>(), 16);
     assert_eq!(size_of::<Random>(), 2);
     assert_eq!(size_of::<Draw>(), 8);
     assert_eq!(size_of::<Stepped>(), 12);
@@ -43,6 +44,7 @@ fn places() {
     assert_eq!(offset_of!(Fit, luma_marks), 312);
     assert_eq!(offset_of!(Fit, cb_marks), 336);
     assert_eq!(offset_of!(Fit, cr_marks), 361);
+    assert_eq!(offset_of!(Root, digits), 8);
     assert_eq!(offset_of!(Stepped, after), 8);
     assert_eq!(offset_of!(Written, bits), 8);
 }

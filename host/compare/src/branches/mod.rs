@@ -7,6 +7,7 @@ mod fits;
 mod gates;
 mod headers;
 mod profiles;
+mod root;
 mod solver;
 
 use crate::input::{Input, Plane};
@@ -14,6 +15,7 @@ pub use fits::{CHROMA_CORRELATION, FIT};
 pub use gates::{CB_GATE, CR_GATE, LUMA_GATE, ROW_CORRELATION};
 pub use headers::HEADER;
 pub use profiles::{PROFILE, SIGMA16};
+pub use root::ROOT;
 pub use solver::{QUANTISED_SOLUTION, QUANTISER, SOLVER};
 
 /// The branches that a case takes.

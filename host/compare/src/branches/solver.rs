@@ -100,7 +100,7 @@ pub const QUANTISER: Branches = Branches {
 };
 
 fn quantiser(input: &Input, _: &[u64]) -> Taken {
-    let x = input.system.float * 64.0;
+    let x = input.float * 64.0;
     let rounded = x.round();
     those([
         ("NaN", x.is_nan()),

@@ -2,6 +2,7 @@
 //! standard output.
 
 mod headers;
+mod roots;
 
 use compare::calls::{CALLS, Call};
 use compare::clock;
@@ -263,6 +264,7 @@ fn main() {
         }
     }
     headers::table();
+    roots::table();
     if !quick {
         growth(10);
     }
