@@ -1,7 +1,7 @@
 //! Film-grain figures for an AV1 encoder: safe functions over libgrain.a, whose every function is proved against its
 //! contract.
 //!
-//! The names are those of the Rust that the library ports. Planes are u16 samples in row order, lent by the caller;
+//! The Rust's functions keep their names. Planes are u16 samples in row order, lent by the caller;
 //! width and height are at most 4,096, and the depth is 8, 10 or 12 bits. A call asks its questions first and answers a
 //! [`Refusal`] with the first that fails, having changed nothing.
 //!
