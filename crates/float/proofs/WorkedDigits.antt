@@ -29,7 +29,7 @@ split-exact : (n s r : ℕ) → 2 ^ 52 ≤ n → n < 2 ^ 54 - 1 → 27 ≤ s →
 split-exact n s r lo hi l h e =
     let P = n * 2 ^ 52 in
     let q = wholeRoot P in
-    let u = unscaled r P (s - 26) (e ∙ in-fours n s (omega arith)) in
+    let u = unscaled r P (s - 26) (e ∙ in-fours n 26 s (omega arith)) in
     let same : u .0 ≡ q = sym (whole-square (u .0) P (u .1)) in
     let square : q * q ≡ P = ap (λ (x : ℕ). x * x) (sym same) ∙ u .1 in
     let p = split n s q (P - q * q) lo hi l refl refl in

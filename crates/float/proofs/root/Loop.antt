@@ -6,14 +6,14 @@
 -- Assumes nothing.
 use mathlib.Core.Path.{_≡_, refl, sym, ap, _∙_, subst}
 use Prim.Native.Nat.{ℕ, zero, suc, _+_, _-_, _*_, _/_, _%_, _^_, _≤_, _<_}
-use native.Mathlib.Nat.{add-sub-of-le, le-trans, le-of-eq, lt-of-le-of-lt, lt-of-lt-of-le, div-eq-of-lt-le, mul-lt-mul-of-pos-right, mul-pos, mod-eq-of-lt, mul-assoc, mul-le-mul-right, mul-right-comm, mul-mul-mul-comm, mul-one, pow-suc}
+use native.Mathlib.Nat.{add-sub-of-le, le-trans, le-of-eq, lt-of-le-of-lt, lt-of-lt-of-le, div-eq-of-lt-le, mul-lt-mul-of-pos-right, mul-pos, mod-eq-of-lt, mul-assoc, mul-comm, mul-le-mul-right, mul-right-comm, mul-mul-mul-comm, mul-one, pow-suc}
 use native.Mathlib.Numerals.{add-one}
 use native.Mathlib.Decide.{decLe}
 use native.Mathlib.Omega.{arith}
 use lib.Pow.{pow-pos, pow-mono, pow-add, shl-lt}
 use Rattle.float.specs.Root.{wholeRoot}
 use Rattle.float.specs.WorkedDigits.{digitsOf, FirstToLast}
-use Rattle.float.proofs.WholeRoot.{root-low, root-high, root-unique, square-le, square-lt, square-suc}
+use Rattle.float.proofs.WholeRoot.{root-low, root-high, root-unique, square-le, square-lt, square-suc, odd-square}
 use Rattle.float.proofs.FirstToLast.{counted, zeros-behind}
 use Rattle.float.proofs.DigitsOf.{whole-square, digits-exact, digits-else}
 
@@ -42,8 +42,8 @@ module _ (m q rest left i : ℕ) (st : State m q rest left i) (l : i < 53) where
   even-square : q * 2 * (q * 2) ≡ q * q * 4
   even-square = mul-mul-mul-comm q 2 q 2
 
-  odd-square : (q * 2 + 1) * (q * 2 + 1) ≡ q * q * 4 + 4 * q + 1
-  odd-square = ap (λ (x : ℕ). x * x) (add-one (q * 2)) ∙ square-suc (q * 2) ∙ omega (arith, even-square)
+  with-one : (q * 2 + 1) * (q * 2 + 1) ≡ q * q * 4 + 4 * q + 1
+  with-one = ap (λ (x : ℕ). (x + 1) * (x + 1)) (mul-comm q 2) ∙ odd-square q ∙ omega arith
 
   four-more : m * 4 ^ (i + 1) ≡ m * 4 ^ i * 4
   four-more = rw (add-one i, pow-suc 4 i) (sym (mul-assoc m (4 ^ i) 4))
@@ -67,7 +67,7 @@ module _ (m q rest left i : ℕ) (st : State m q rest left i) (l : i < 53) where
 
   pub one-digit : q * 4 + 1 ≤ rest * 4 + left / 2 ^ 52 → State m (q * 2 + 1) (rest * 4 + left / 2 ^ 52 - (q * 4 + 1)) (left % 2 ^ 52 * 4) (i + 1)
   one-digit h = record {
-    value = omega (arith, odd-square, four-more);
+    value = omega (arith, with-one, four-more);
     i-le = omega arith;
     left-lt = omega arith;
     rest-le = omega arith;

@@ -18,22 +18,20 @@ pub record Split (N k q rest : ℕ) : Type 0 where
   pub q-hi : q < 2 ^ 53
   pub no-carry : q < rest → suc q < 2 ^ 53
 
--- the number that the digits are taken of, before a power of four
-pub in-fours : (n s : ℕ) → 26 ≤ s → n * (2 ^ s * 2 ^ s) ≡ n * 2 ^ 52 * (2 ^ (s - 26) * 2 ^ (s - 26))
-in-fours n s l =
-    ap (λ (x : ℕ). n * (x * x)) (ap (λ (x : ℕ). 2 ^ x) (sym (add-sub-of-le l)) ∙ pow-add 2 26 (s - 26))
-    ∙ ap (λ (x : ℕ). n * x) (mul-mul-mul-comm (2 ^ 26) (2 ^ (s - 26)) (2 ^ 26) (2 ^ (s - 26)))
-    ∙ sym (mul-assoc n (2 ^ 52) (2 ^ (s - 26) * 2 ^ (s - 26)))
+-- a part of a power of four, put before the rest of it
+pub in-fours : (n k s : ℕ) → k ≤ s → n * (2 ^ s * 2 ^ s) ≡ n * (2 ^ k * 2 ^ k) * (2 ^ (s - k) * 2 ^ (s - k))
+in-fours n k s l =
+    let w = 2 ^ (s - k) in
+    ap (λ (x : ℕ). n * (x * x)) (ap (λ (x : ℕ). 2 ^ x) (sym (add-sub-of-le l)) ∙ pow-add 2 k (s - k))
+    ∙ ap (λ (x : ℕ). n * x) (mul-mul-mul-comm (2 ^ k) w (2 ^ k) w)
+    ∙ sym (mul-assoc n (2 ^ k * 2 ^ k) (w * w))
 
 pub split : (n s q rest : ℕ) → 2 ^ 52 ≤ n → n < 2 ^ 54 - 1 → 27 ≤ s → q ≡ wholeRoot (n * 2 ^ 52) → rest ≡ n * 2 ^ 52 - q * q
     → Split (n * (2 ^ s * 2 ^ s)) (s - 26) q rest
 split n s q rest lo hi l e d = record {
   P = P;
   w = w;
-  is = ap (λ (x : ℕ). n * (x * x)) (ap (λ (x : ℕ). 2 ^ x) (sym (add-sub-of-le l)) ∙ pow-add 2 27 (s - 27))
-      ∙ ap (λ (x : ℕ). n * x) (mul-mul-mul-comm (2 ^ 27) w (2 ^ 27) w)
-      ∙ sym (mul-assoc n (2 ^ 54) (w * w))
-      ∙ ap (λ (x : ℕ). x * (w * w)) (four n);
+  is = in-fours n 27 s l ∙ ap (λ (x : ℕ). x * (w * w)) (four n);
   weight = ap (λ (x : ℕ). 2 ^ x) (one-more s l) ∙ pow-add 2 1 (s - 27);
   value = omega (arith, low);
   rest-le = omega (arith, high);

@@ -57,7 +57,7 @@ worked c =
     let t = s-of c - 26 in
     c .root-digits .ensures .2
     ∙ sym (digits-scaled (n * 2 ^ 52) t (omega (arith, c .before .even .ensures .1 .lead)))
-    ∙ ap digitsOf (sym (in-fours n (s-of c) (omega (arith, c .before .even .ensures .1 .low))))
+    ∙ ap digitsOf (sym (in-fours n 26 (s-of c) (omega (arith, c .before .even .ensures .1 .low))))
     ∙ sym (digits-of-value (c .before .before .before .args .x) (N-of c) (c .before .before .before .pre) (value-of c))
 
 answer : (v : Float) (d : ℕ) (x : Float) → v ≡ root x → d ≡ workedDigits x → record { value = v; digits = d } ≡ workedRoot x
