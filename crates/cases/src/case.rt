@@ -29,10 +29,5 @@ pub struct Answer {
 }
 
 pub fn shape_of(c: Case) -> Shape {
-    Shape {
-        width: c.width,
-        height: c.height,
-        depth: c.depth,
-        format: c.format,
-    }
+    Shape::whole(c.width, c.height, c.depth, c.format)
 }

@@ -3,6 +3,7 @@ pub mod Taps
 pub mod Parts
 pub mod Answers
 pub mod OnlyCr
+pub mod Cropped
 pub mod SetToZero
 pub mod NeverNaN
 pub mod Demand

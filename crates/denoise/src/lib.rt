@@ -1,4 +1,5 @@
 // The denoised plane and the denoised frame.
+use frame::Component;
 use frame::Shape;
 ghost use mathlib.Core.Path.{_≡_};
 ghost use Rattle.denoise.specs.Calls.{planeOutcome, planes, frameOutcome};
@@ -34,8 +35,8 @@ pub fn denoise_frame(
     if refusal != 0 {
         return refusal;
     }
-    let width = s.chroma_width();
-    let height = s.chroma_height();
+    let width = s.width_of(Component::CbCr);
+    let height = s.height_of(Component::CbCr);
     plane::smooth_plane(y, yout, s.width, s.height);
     plane::smooth_plane(cb, cbout, width, height);
     plane::smooth_plane(cr, crout, width, height);

@@ -16,6 +16,7 @@ pub mod EachFit
 pub mod Carried
 pub mod NoChroma
 pub mod OnlyCr
+pub mod Cropped
 pub mod Range
 pub mod Unused
 pub mod Filter

@@ -18,7 +18,7 @@ no-columns format w e = rw e
 
 none : {A : Type 0} (R : Reading A) (s : Shape) (luma : Luma) (source denoised : List ℕ) (lag : ℕ) → NoChroma (s .format) luma (planeOf s source denoised) lag → chromaFit R luma (planeOf s source denoised) lag ≡ zeros R
 unfolding coefficientsOf
-none R s luma source denoised lag (monochrome e) = sym (steps.narrow R luma (planeOf s source denoised) lag (rw (no-columns (s .format) (s .width) e) zero-le))
+none R s luma source denoised lag (monochrome e) = sym (steps.narrow R luma (planeOf s source denoised) lag (rw (no-columns (s .format) (s .active .width) e) zero-le))
 none R s luma source denoised lag (narrow n) = sym (steps.narrow R luma (planeOf s source denoised) lag n)
 none R s luma source denoised lag (short n) = sym (steps.short R luma (planeOf s source denoised) lag n)
 none R s luma source denoised lag (unsolved e) = chroma-case R (λ x. x ≡ zeros R) refl luma (planeOf s source denoised) lag (rw e)

@@ -7,12 +7,13 @@ use lib.ListN.{length}
 use borrow.Author.Tests.{leb-true}
 use Rattle.frame.specs.declared.Shape.{Shape}
 use Rattle.frame.specs.Planes.{widthOf, heightOf, samplesOf}
+use Rattle.frame.specs.Inside.{Inside}
 use Rattle.frame.specs.declared.view.Component.{Component}
 use Rattle.frame.specs.declared.view.Component.the-variants.{Y, CbCr}
 use Rattle.frame.specs.Questions.{Question, firstNo, filled, frameFilled, samplesLow, lagKnown, each}
 use Rattle.frame.specs.Calls.{shapeNumbers, planeNumbers, pairNumbers, frameNumbers, gateNumbers, copyQuestions, planeRefusal, pairRefusal, frameRefusal, fitRefusal, gateRefusal, denoiseFrameRefusal}
 use Rattle.frame.proofs.Refusal.{numbered, passed, parts}
-use Rattle.frame.proofs.Facts.{Sides, is-small, Depth, is-depth, Known, is-known, Each, are-each, LowPlane, is-plane, Lows, are-low}
+use Rattle.frame.proofs.Facts.{Sides, is-small, Depth, is-depth, Known, is-known, inside, Each, are-each, LowPlane, is-plane, Lows, are-low}
 
 -- a call that is asked about samples last
 sampled : (qs : List Question) (depth : ℕ) (planes : List (List ℕ)) → numbered qs ≡ true → firstNo (qs ++ (samplesLow depth planes ∷ [])) ≡ 0
@@ -161,3 +162,14 @@ gate-call s component a b c d e =
       third = is-plane _ _ c m (l .1 .1 .0) (f .1 .1 .1 .0);
       fourth = is-plane _ _ d m (l .1 .1 .1 .0) (f .1 .1 .1 .1 .0);
     }
+
+-- ---- the active rectangle of an accepted call lies in the frame
+module _ (s : Shape) (y cb cr y-denoised cb-denoised cr-denoised : List ℕ) where
+  pub frame-inside : frameRefusal s y cb cr y-denoised cb-denoised cr-denoised ≡ 0 → Inside s
+  frame-inside e = inside (frame-call s y cb cr y-denoised cb-denoised cr-denoised e .shape)
+
+  pub fit-inside : (lag : ℕ) → fitRefusal s y cb cr y-denoised cb-denoised cr-denoised lag ≡ 0 → Inside s
+  fit-inside lag e = inside (fit-call s y cb cr y-denoised cb-denoised cr-denoised lag e .frame .shape)
+
+pub gate-inside : (s : Shape) (component : Component) (a b c d : List ℕ) → gateRefusal s component a b c d ≡ 0 → Inside s
+gate-inside s component a b c d e = inside (gate-call s component a b c d e .shape)

@@ -6,5 +6,8 @@ pub mod Cause
 pub mod Samples
 pub mod Gathered
 pub mod Facts
+pub mod Inside
 pub mod Accepted
+pub mod Passes
+pub mod Cropped
 pub mod Known

@@ -62,6 +62,10 @@ passed ((true, suc n) ∷ qs) h e = (refl, passed qs h e)
 passed ((false, suc n) ∷ qs) h e = absurd (omega arith)
 passed ((b, zero) ∷ qs) h e = absurd (false≢true h)
 
+pub all-passed : (qs : List Question) → Passed qs → firstNo qs ≡ 0
+all-passed [] p = refl
+all-passed ((b, n) ∷ qs) p = rw (p .0) (all-passed qs (p .1))
+
 both-zero : (m n : ℕ) → accepted m n m ≡ 0 → (m ≡ 0) × (n ≡ 0)
 both-zero zero n e = (refl, e)
 both-zero (suc m) n e = absurd (omega arith)
@@ -69,3 +73,6 @@ both-zero (suc m) n e = absurd (omega arith)
 -- of questions asked after others: those pass, and these
 pub parts : (qs rs : List Question) → numbered qs ≡ true → firstNo (qs ++ rs) ≡ 0 → (firstNo qs ≡ 0) × (firstNo rs ≡ 0)
 parts qs rs h e = both-zero (firstNo qs) (firstNo rs) (sym (first-no-append qs rs h) ∙ e)
+
+pub both : (qs rs : List Question) → numbered qs ≡ true → firstNo qs ≡ 0 → firstNo rs ≡ 0 → firstNo (qs ++ rs) ≡ 0
+both qs rs h e f = first-no-append qs rs h ∙ rw (e, f)

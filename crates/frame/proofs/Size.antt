@@ -1,14 +1,14 @@
 -- Chroma is no larger than luma, and a plane whose sides are at most a limit has at most its square of samples. Assumes nothing.
 use mathlib.Core.Bool.{Bool, true, false, cond}
-use Prim.Native.Nat.{ℕ, _*_, _≤_}
-use native.Mathlib.Nat.{le-trans, mul-le-mul, lt-of-le-of-lt}
+use Prim.Native.Nat.{ℕ, _+_, _*_, _≤_}
+use native.Mathlib.Nat.{le-trans, mul-le-mul, add-le-add, lt-of-le-of-lt}
 use native.Mathlib.Omega.{arith}
 use lib.Dec.{eqb, leb, lit<}
 use mir.Syntax.{w64}
 use mir.Val.{Fits}
 use Rattle.laws.specs.Limits.{sideLimit}
 use Rattle.frame.specs.Size.{chromaWidth, chromaHeight}
-use Rattle.frame.specs.Planes.{samplesOf, widthOf, heightOf}
+use Rattle.frame.specs.Planes.{columnsOf, rowsOf, samplesOf}
 use Rattle.frame.specs.declared.Shape.{Shape}
 use Rattle.frame.specs.declared.view.Component.{Component}
 use Rattle.frame.specs.declared.view.Component.the-variants.{Y, CbCr}
@@ -35,11 +35,15 @@ area-le l p q = mul-le-mul p q
 pub area-fits : {w h : ℕ} → w ≤ sideLimit → h ≤ sideLimit → Fits w64 (w * h)
 area-fits p q = record { fits = lt-of-le-of-lt (area-le sideLimit p q) (lit< tt) }
 
--- the sides of a plane of a frame
-pub width-le : (s : Shape) (component : Component) {l : ℕ} → s .width ≤ l → widthOf s component ≤ l
-width-le s Y h = h
-width-le s CbCr h = le-trans (chroma-width-le (s .format) (s .width)) h
+-- no plane has more columns or rows than luma
+pub columns-le : (format : ℕ) (component : Component) {x l : ℕ} → x ≤ l → columnsOf format component x ≤ l
+columns-le format Y h = h
+columns-le format CbCr {x} h = le-trans (chroma-width-le format x) h
 
-pub height-le : (s : Shape) (component : Component) {l : ℕ} → s .height ≤ l → heightOf s component ≤ l
-height-le s Y h = h
-height-le s CbCr h = le-trans (chroma-height-le (s .format) (s .height)) h
+pub rows-le : (format : ℕ) (component : Component) {x l : ℕ} → x ≤ l → rowsOf format component x ≤ l
+rows-le format Y h = h
+rows-le format CbCr {x} h = le-trans (chroma-height-le format x) h
+
+-- where a rectangle begins in a plane
+pub start-fits : {w top left : ℕ} → w ≤ sideLimit → top ≤ sideLimit → left ≤ sideLimit → Fits w64 (top * w + left)
+start-fits {w} {top} {left} a b c = record { fits = lt-of-le-of-lt (add-le-add (area-le sideLimit b a) c) (lit< tt) }

@@ -2,7 +2,7 @@
 use mathlib.Core.List.{List, [], _∷_, _++_, map}
 use Prim.Native.Nat.{ℕ}
 use lib.ListN.{length}
-use Rattle.frame.specs.Questions.{Question, firstNo, small, present, depthKnown, formatKnown, filled, frameFilled, samplesLow, lagKnown, orderKnown, bitsKnown}
+use Rattle.frame.specs.Questions.{Question, firstNo, small, present, depthKnown, formatKnown, activeInside, filled, frameFilled, samplesLow, lagKnown, orderKnown, bitsKnown}
 use Rattle.frame.specs.Planes.{widthOf, heightOf}
 use Rattle.frame.specs.declared.Shape.{Shape}
 use Rattle.frame.specs.declared.view.Component.{Component}
@@ -20,7 +20,7 @@ pairNumbers w h depth planes = small w h ∷ depthKnown depth ∷ filled w h pla
 -- the shape of a frame call
 unfoldable pub shapeNumbers : Shape → List Question
 shapeNumbers s =
-    small (s .width) (s .height) ∷ present (s .width) (s .height) ∷ depthKnown (s .depth) ∷ formatKnown (s .format) ∷ []
+    small (s .width) (s .height) ∷ present (s .width) (s .height) ∷ depthKnown (s .depth) ∷ formatKnown (s .format) ∷ activeInside s ∷ []
 
 -- its planes: of luma and of chroma; of one component
 unfoldable pub frameNumbers : Shape → List ℕ → List ℕ → List Question

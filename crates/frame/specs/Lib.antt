@@ -6,3 +6,4 @@ pub mod Planes
 pub mod Questions
 pub mod Calls
 pub mod Cause
+pub mod Inside

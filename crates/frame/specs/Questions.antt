@@ -1,7 +1,7 @@
 -- "A call is asked, in this order, only about things it receives." A question is its answer, with the number that a refusal gives.
 use mathlib.Core.Bool.{Bool, true, cond, _&&_, _||_}
 use mathlib.Core.List.{List, [], _∷_}
-use Prim.Native.Nat.{ℕ, zero, suc, _*_, _^_}
+use Prim.Native.Nat.{ℕ, zero, suc, _+_, _*_, _%_, _^_}
 use lib.Dec.{leb, ltb, eqb}
 use Rattle.laws.specs.Limits.{sideLimit, lagLimit, orderLimit}
 use Rattle.frame.specs.Planes.{samplesOf}
@@ -52,6 +52,21 @@ depthKnown depth = (eqb depth 8 || (eqb depth 10 || eqb depth 12), 3)
 -- Is the format 0 to 3? No: 4.
 abbrev pub formatKnown : ℕ → Question
 formatKnown format = (leb format 3, 4)
+
+-- Is the active rectangle not empty, does it end within the frame, and does it start at an even place in a direction that the format halves (both for 1, across for 2, none for 0 and 3)? No: 12. Along one direction, and along both.
+abbrev pub isPart : Bool → ℕ → ℕ → ℕ → Bool
+isPart halved start size side = leb 1 size && (leb (start + size) side && cond halved (eqb (start % 2) 0) true)
+
+abbrev pub halvesAcross : ℕ → Bool
+halvesAcross format = eqb format 1 || eqb format 2
+
+abbrev pub halvesDown : ℕ → Bool
+halvesDown format = eqb format 1
+
+abbrev pub activeInside : Shape → Question
+activeInside s =
+    (isPart (halvesAcross (s .format)) (s .active .left) (s .active .width) (s .width) &&
+    isPart (halvesDown (s .format)) (s .active .top) (s .active .height) (s .height), 12)
 
 -- Has every lent plane, destinations included, exactly its number of samples? No: 5. Of planes of one size; and of the luma and the chroma planes of a frame. A plane stands by its length.
 abbrev pub filled : ℕ → ℕ → List ℕ → Question

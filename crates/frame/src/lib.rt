@@ -25,18 +25,29 @@ ghost use mathlib.Core.Path.{_≡_};
 ghost use mathlib.Core.Bool.{cond};
 ghost use Prim.Native.Nat.{_+_, _/_};
 ghost use Rattle.frame.specs.Size.{chromaWidth, chromaHeight};
-ghost use Rattle.frame.specs.Planes.{widthOf, heightOf, viewOf, samplingOf, geometryOf};
+ghost use Rattle.frame.specs.Planes.{wholeFrame, columnsOf, rowsOf, widthOf, heightOf, viewOf, samplingOf, geometryOf};
+ghost use Rattle.frame.specs.Inside.{Inside};
 
 // The largest width and the largest height.
 pub const SIDE_LIMIT: usize = 4096;
 
-// A frame's size in luma samples, its depth in bits, and its format: 0 monochrome, 1 4:2:0, 2 4:2:2, 3 4:4:4.
+// A part of a frame, in luma samples.
+#[repr(C)]
+pub struct Rectangle {
+    pub left: usize,
+    pub top: usize,
+    pub width: usize,
+    pub height: usize,
+}
+
+// A frame's size in luma samples, its depth in bits, its format: 0 monochrome, 1 4:2:0, 2 4:2:2, 3 4:4:4; and the active rectangle, outside which there is no picture.
 #[repr(C)]
 pub struct Shape {
     pub width: usize,
     pub height: usize,
     pub depth: u8,
     pub format: u8,
+    pub active: Rectangle,
 }
 
 // (x + 1) / 2
@@ -67,18 +78,57 @@ fn bit(b: bool) -> usize
 }
 
 impl Shape {
-    // 0, (w + 1) / 2 or w
-    pub fn chroma_width(self) -> usize
-        ensures { λ r. ⌜ r ≡ chromaWidth (self .format) (self .width) ⌝ }
+    // A frame that is active as a whole.
+    pub fn whole(width: usize, height: usize, depth: u8, format: u8) -> Shape
+        ensures { λ r. ⌜ r ≡ wholeFrame width height depth format ⌝ }
     {
-        chroma_side(self.format == 0, self.format <= 2, self.width)
+        let active = Rectangle {
+            left: 0,
+            top: 0,
+            width,
+            height,
+        };
+        Shape {
+            width,
+            height,
+            depth,
+            format,
+            active,
+        }
     }
 
-    // 0, (h + 1) / 2 or h
-    pub fn chroma_height(self) -> usize
-        ensures { λ r. ⌜ r ≡ chromaHeight (self .format) (self .height) ⌝ }
+    // How many columns of a plane lie over x columns of luma.
+    fn columns_of(self, component: Component, x: usize) -> usize
+        ensures { λ r. ⌜ r ≡ columnsOf (self .format) component x ⌝ }
     {
-        chroma_side(self.format == 0, self.format == 1, self.height)
+        match component {
+            Component::Y => x,
+            Component::CbCr => chroma_side(self.format == 0, self.format <= 2, x),
+        }
+    }
+
+    // How many rows of a plane lie over x rows of luma.
+    fn rows_of(self, component: Component, x: usize) -> usize
+        ensures { λ r. ⌜ r ≡ rowsOf (self .format) component x ⌝ }
+    {
+        match component {
+            Component::Y => x,
+            Component::CbCr => chroma_side(self.format == 0, self.format == 1, x),
+        }
+    }
+
+    // The columns of a plane.
+    pub fn width_of(self, component: Component) -> usize
+        ensures { λ r. ⌜ r ≡ widthOf self component ⌝ }
+    {
+        self.columns_of(component, self.width)
+    }
+
+    // The rows of a plane.
+    pub fn height_of(self, component: Component) -> usize
+        ensures { λ r. ⌜ r ≡ heightOf self component ⌝ }
+    {
+        self.rows_of(component, self.height)
     }
 
     // What the format halves: the columns, and the rows.
@@ -90,35 +140,26 @@ impl Shape {
         Sampling { across, down }
     }
 
-    // The columns of a plane.
-    pub fn width_of(self, component: Component) -> usize
-        ensures { λ r. ⌜ r ≡ widthOf self component ⌝ }
-    {
-        match component {
-            Component::Y => self.width,
-            Component::CbCr => self.chroma_width(),
-        }
-    }
-
-    // The rows of a plane.
-    pub fn height_of(self, component: Component) -> usize
-        ensures { λ r. ⌜ r ≡ heightOf self component ⌝ }
-    {
-        match component {
-            Component::Y => self.height,
-            Component::CbCr => self.chroma_height(),
-        }
-    }
-
-    // What a call sees of a plane: all of it.
+    // What a call sees of a plane: the active rectangle.
     pub fn view(self, component: Component) -> View
+        requires { ⌜ Inside self ⌝ }
         ensures { λ r. ⌜ r ≡ viewOf self component ⌝ }
     {
-        View::whole(self.width_of(component), self.height_of(component))
+        let step = self.width_of(component);
+        let left = self.columns_of(component, self.active.left);
+        let top = self.rows_of(component, self.active.top);
+        View {
+            start: top * step + left,
+            step,
+            stride: 1,
+            width: self.columns_of(component, self.active.width),
+            height: self.rows_of(component, self.active.height),
+        }
     }
 
     // What a call sees of a frame.
     pub fn geometry(self) -> Geometry
+        requires { ⌜ Inside self ⌝ }
         ensures { λ r. ⌜ r ≡ geometryOf self ⌝ }
     {
         let luma = self.view(Component::Y);

@@ -34,14 +34,15 @@ pub fn pair_numbers(width: usize, height: usize, depth: u8, src: usize, den: usi
     ask(n, questions::both_are(width * height, src, den), 5)
 }
 
-// Questions 1 to 4, of a frame's shape.
+// Questions 1 to 4 and 12, of a frame's shape.
 pub fn shape_numbers(s: Shape) -> u32
     ensures { λ r. ⌜ r ≡ firstNo (shapeNumbers s) ⌝ }
 {
     let n = ask(0, questions::is_small(s.width, s.height), 1);
     let n = ask(n, questions::is_present(s.width, s.height), 2);
     let n = ask(n, questions::depth_known(s.depth), 3);
-    ask(n, questions::format_known(s.format), 4)
+    let n = ask(n, questions::format_known(s.format), 4);
+    ask(n, questions::active_inside(s), 12)
 }
 
 // The samples of a plane.
@@ -52,7 +53,7 @@ fn samples(s: Shape, component: Component) -> usize
     s.width_of(component) * s.height_of(component)
 }
 
-// Questions 1 to 5, of a frame and its twin: the denoised copy, or the destinations.
+// Questions 1 to 4, 12 and 5, of a frame and its twin: the denoised copy, or the destinations.
 pub fn frame_numbers(
     s: Shape,
     y: usize,
@@ -73,7 +74,7 @@ pub fn frame_numbers(
     ask(n, luma & chroma, 5)
 }
 
-// Questions 1 to 5, of four planes of one component.
+// Questions 1 to 4, 12 and 5, of four planes of one component.
 pub fn gate_numbers(s: Shape, component: Component, a: usize, b: usize, c: usize, d: usize) -> u32
     ensures { λ r. ⌜ r ≡ firstNo (gateNumbers s component (a ∷ b ∷ c ∷ d ∷ [])) ⌝ }
 {

@@ -1,9 +1,10 @@
 // The questions put to a call, each a plain yes or no.
 use crate::SIDE_LIMIT;
+use crate::Shape;
 ghost use mathlib.Core.Path.{_≡_};
 ghost use mathlib.Core.Bool.{cond};
 ghost use mathlib.Core.List.{[], _∷_};
-ghost use Rattle.frame.specs.Questions.{accepted, small, present, depthKnown, formatKnown, each, low, allLow};
+ghost use Rattle.frame.specs.Questions.{accepted, small, present, depthKnown, formatKnown, isPart, activeInside, each, low, allLow};
 
 // One question more: the number of an earlier refusal, else this question's where the answer is no, else 0.
 pub fn ask(earlier: u32, answer: bool, number: u32) -> u32
@@ -44,6 +45,34 @@ pub fn format_known(format: u8) -> bool
     ensures { λ r. ⌜ r ≡ formatKnown format .0 ⌝ }
 {
     format <= 3
+}
+
+// Along one direction, a rectangle from `start` on, `size` long, in a frame `side` long: 1 ≤ size, start + size ≤ side, and an even start where the format halves the direction. The sum is not worked out: it may be past the largest number.
+fn is_part(halved: bool, start: usize, size: usize, side: usize) -> bool
+    ensures { λ r. ⌜ r ≡ isPart halved start size side ⌝ }
+{
+    if size < 1 {
+        return false;
+    }
+    if side < size {
+        return false;
+    }
+    if side - size < start {
+        return false;
+    }
+    if halved {
+        return start % 2 == 0;
+    }
+    true
+}
+
+// The active rectangle is a part of the frame, and starts where chroma does.
+pub fn active_inside(s: Shape) -> bool
+    ensures { λ r. ⌜ r ≡ activeInside s .0 ⌝ }
+{
+    let across = is_part((s.format == 1) | (s.format == 2), s.active.left, s.active.width, s.width);
+    let down = is_part(s.format == 1, s.active.top, s.active.height, s.height);
+    across & down
 }
 
 // a = b = n

@@ -18,7 +18,7 @@ pub fn pair_refusal(src: &[u16], den: &[u16], width: usize, height: usize, depth
     ask(n, questions::both_low(depth, src, den), 6)
 }
 
-// Questions 1 to 6, of a frame and its denoised copy.
+// Questions 1 to 4, 12, 5 and 6, of a frame and its denoised copy.
 pub fn frame_refusal(
     s: Shape,
     y: &[u16],
@@ -50,7 +50,7 @@ pub fn frame_refusal(
     )
 }
 
-// Questions 1 to 7, of a fit: a frame, its denoised copy and a lag.
+// Questions 1 to 4, 12, and 5 to 7, of a fit: a frame, its denoised copy and a lag.
 pub fn fit_refusal(
     s: Shape,
     y: &[u16],
@@ -70,7 +70,7 @@ pub fn fit_refusal(
     numbers::lag_refusal(lag)
 }
 
-// Questions 1 to 6, of four planes of one component.
+// Questions 1 to 4, 12, 5 and 6, of four planes of one component.
 pub fn gate_refusal(
     s: Shape,
     component: Component,
@@ -88,7 +88,7 @@ pub fn gate_refusal(
     ask(n, questions::four_low(s.depth, a, b, c, d), 6)
 }
 
-// Questions 1 to 6, of a frame and the lengths of its destinations.
+// Questions 1 to 4, 12, 5 and 6, of a frame and the lengths of its destinations.
 pub fn denoise_frame_refusal(
     s: Shape,
     y: &[u16],

@@ -3,6 +3,7 @@ pub mod Rows
 pub mod Findings
 pub mod Answers
 pub mod Whole
+pub mod Cropped
 pub mod EnergyZero
 pub mod LumaRow
 pub mod Start

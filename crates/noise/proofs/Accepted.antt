@@ -2,17 +2,18 @@
 use mathlib.Core.Path.{_≡_}
 use mathlib.Core.List.{List}
 use Prim.Native.Nat.{ℕ, _*_, _≤_}
-use Rattle.frame.specs.Planes.{samplesOf, widthOf, heightOf, viewOf, geometryOf}
+use Rattle.frame.specs.Planes.{samplesOf, widthOf, heightOf, activeOf, viewOf, geometryOf}
 use Rattle.frame.specs.Calls.{frameRefusal, fitRefusal}
 use Rattle.frame.specs.declared.Shape.{Shape}
 use Rattle.frame.specs.declared.view.Component.{Component}
 use Rattle.frame.specs.declared.view.Component.the-variants.{Y, CbCr}
-use Rattle.frame.proofs.Size.{width-le, height-le}
+use Rattle.frame.proofs.Size.{columns-le, rows-le}
+use Rattle.frame.proofs.Inside.{active-across, active-down}
 use Rattle.frame.proofs.Facts.{Known, LowPlane}
 use Rattle.frame.proofs.Accepted.{FrameCall, frame-call, fit-call}
 use Rattle.noise.specs.Lines as lines
 use Rattle.noise.specs.Seen.{Seen, SeenFrame}
-use Rattle.noise.proofs.Seen.{seen-all}
+use Rattle.noise.proofs.Seen.{seen-part}
 use Rattle.noise.proofs.Over.{shape-over}
 
 -- a plane and its copy of one size, whose samples are low
@@ -24,11 +25,12 @@ plane-of w h depth source denoised P Q = record {
   denoised-low = λ i l. Q .below-limit i;
 }
 
--- a component of an accepted shape
+-- the active part of a component of an accepted shape
 pub plane-seen : (s : Shape) (component : Component) {source denoised : List ℕ} → Known s → LowPlane (samplesOf s component) (s .depth) source → LowPlane (samplesOf s component) (s .depth) denoised
     → Seen (viewOf s component) source denoised
 plane-seen s component K P Q =
-    seen-all (plane-of (widthOf s component) (heightOf s component) (s .depth) _ _ P Q) (width-le s component (K .size .wide)) (height-le s component (K .size .high))
+    seen-part (plane-of (widthOf s component) (heightOf s component) (s .depth) _ _ P Q) (activeOf s component) (active-across s component K) (active-down s component K)
+    (columns-le (s .format) component (K .size .wide)) (rows-le (s .format) component (K .size .high))
 
 -- ---- the calls
 

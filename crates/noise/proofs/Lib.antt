@@ -17,6 +17,7 @@ pub mod NoiseLines
 pub mod Seen
 pub mod RowSums
 pub mod SeenCalls
+pub mod Cropped
 pub mod Quarters
 pub mod Averages
 pub mod Over

@@ -88,6 +88,6 @@ pub shape-over : (s : Shape) → Over (geometryOf s)
 shape-over s = record {
   across = sub-le (leb (s .format) 2);
   down = sub-le (leb (s .format) 1);
-  rows = λ r l. lies (s .format) (s .width) (s .height) r l .0;
-  columns = λ l. lies (s .format) (s .width) (s .height) 0 l .1;
+  rows = λ r l. lies (s .format) (s .active .width) (s .active .height) r l .0;
+  columns = λ l. lies (s .format) (s .active .width) (s .active .height) 0 l .1;
 }

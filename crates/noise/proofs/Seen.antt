@@ -1,8 +1,8 @@
--- What a view shows of a plane and its copy is a plane and its copy, with the noise of the view's places; and the view of two whole planes shows them. Assumes nothing.
-use mathlib.Core.Path.{_≡_, sym, ap, _∙_}
+-- What a view shows of a plane and its copy is a plane and its copy, with the noise of the view's places; and so does a rectangle of two planes, or the whole of them. Assumes nothing.
+use mathlib.Core.Path.{_≡_, refl, sym, ap, subst, _∙_}
 use mathlib.Core.List.{List}
 use Prim.Native.Nat.{ℕ, zero, suc, _+_, _-_, _*_, _/_, _%_, _≤_, _<_}
-use native.Mathlib.Nat.{le-of-eq, le-trans, lt-of-lt-of-le, not-suc-le-zero, mod-lt, div-lt-iff-lt-mul, mul-comm, zero-mul, suc-mul, mul-le-mul-right}
+use native.Mathlib.Nat.{le-of-eq, le-trans, lt-of-lt-of-le, not-suc-le-zero, mod-lt, div-lt-iff-lt-mul, mul-comm, add-mul, zero-mul, suc-mul, mul-le-mul-right}
 use native.Mathlib.Omega.{arith}
 use lib.Arith.{digits-lt}
 use lib.IntN.{ℤ, pos, natAbs, _-ℤ_, _*ℤ_}
@@ -10,9 +10,10 @@ use lib.ListN.{length, getD}
 use Rattle.laws.specs.Limits.{sideLimit, sampleLimit}
 use Rattle.laws.proofs.Sums.{sum-ext}
 use Rattle.laws.proofs.Table.{getD-tabulate}
-use Rattle.frame.specs.View.{placeAt, viewed, whole}
+use Rattle.frame.specs.View.{placeAt, viewed, whole, part}
+use Rattle.frame.specs.declared.Rectangle.{Rectangle}
 use Rattle.frame.specs.declared.view.View.{View}
-use Rattle.frame.proofs.Viewed.{viewed-length, viewed-at, viewed-whole}
+use Rattle.frame.proofs.Viewed.{viewed-length, viewed-at, part-whole, viewed-whole}
 use Rattle.noise.specs.Noise.{noise, place, pair, noiseOf}
 use Rattle.noise.specs.Lines.{noiseLimit, Places, Plane}
 use Rattle.noise.specs.Seen.{seen, noiseAt, Seen, sumOver, squared, SumsOf, CrossOf}
@@ -31,22 +32,29 @@ module _ {w h : ℕ} {source denoised : List ℕ} (P : Plane w h source denoised
       let o = lt-of-lt-of-le k (le-of-eq (P .source-size ∙ sym (P .denoised-size))) in
       noise-small source denoised (place w r c) (record { in-source = k; in-denoised = o; source-low = P .source-low _ k; denoised-low = P .denoised-low _ o })
 
-  -- seen whole
-  pub seen-all : w ≤ sideLimit → h ≤ sideLimit → Seen (whole w h) source denoised
-  seen-all n o =
+  -- a rectangle of them
+  pub seen-part : (a : Rectangle) → a .left + a .width ≤ w → a .top + a .height ≤ h → w ≤ sideLimit → h ≤ sideLimit → Seen (part w a) source denoised
+  seen-part a across down n o =
       record {
-        narrow = n;
-        low = o;
-        rows = λ r l. record {
-          same = P .source-size ∙ sym (P .denoised-size);
-          begins =
-              let all : r * w + w ≤ h * w = le-trans (le-of-eq (sym (suc-mul r w))) (mul-le-mul-right w l) in
-              omega (arith, P .source-size, mul-comm h w);
-          inside = λ i k. let b : place w r i < length source = place-in l k in omega arith;
-          source-low = P .source-low;
-          denoised-low = P .denoised-low;
-        };
+        narrow = omega arith;
+        low = omega arith;
+        rows = λ r l.
+            let at : a .top * w + a .left + r * w ≡ place w (a .top + r) (a .left) = omega (arith, add-mul (a .top) r w) in
+            let row : a .top + r < h = omega arith in
+            record {
+              same = P .source-size ∙ sym (P .denoised-size);
+              begins =
+                  let all : (a .top + r) * w + w ≤ h * w = le-trans (le-of-eq (sym (suc-mul (a .top + r) w))) (mul-le-mul-right w row) in
+                  omega (arith, P .source-size, mul-comm h w);
+              inside = λ i k. let b : place w (a .top + r) (a .left + i) < length source = place-in row (omega arith) in omega arith;
+              source-low = P .source-low;
+              denoised-low = P .denoised-low;
+            };
       }
+
+  -- the whole of them
+  pub seen-all : w ≤ sideLimit → h ≤ sideLimit → Seen (whole w h) source denoised
+  seen-all n o = subst (λ (v : View). Seen v source denoised) (part-whole w h refl refl) (seen-part (record { left = 0; top = 0; width = w; height = h }) (omega arith) (omega arith) n o)
 
   pub seen-whole : seen (whole w h) source denoised ≡ pair source denoised w h
   seen-whole = λ i. pair (viewed-whole w h source (P .source-size) i) (viewed-whole w h denoised (P .denoised-size) i) w h

@@ -1,7 +1,7 @@
--- What the two calls answer: a refused one its number and zeros, an accepted one the figures of its planes, which are seen whole and have low samples. Assumes nothing.
+-- What the two calls answer: a refused one its number and zeros, an accepted one the figures of what it sees of its planes, whose samples are low. Assumes nothing.
 use mathlib.Core.Path.{_≡_, sym, ap, _∙_}
 use mathlib.Core.List.{List}
-use Prim.Native.Nat.{ℕ, _-_, _*_}
+use Prim.Native.Nat.{ℕ, _-_}
 use Rattle.frame.specs.Calls.{pairRefusal, frameRefusal}
 use Rattle.frame.specs.Planes.{viewOf}
 use Rattle.frame.specs.View.{viewed, whole}
@@ -9,27 +9,19 @@ use Rattle.frame.specs.declared.Shape.{Shape}
 use Rattle.frame.specs.declared.view.View.{View}
 use Rattle.frame.specs.declared.view.Component.the-variants.{Y, CbCr}
 use Rattle.frame.proofs.Accepted.{pair-call, frame-call}
-use Rattle.frame.proofs.Facts.{Sides, chroma-sides, Depth, LowPlane}
+use Rattle.frame.proofs.Facts.{Depth, LowPlane}
 use Rattle.frame.proofs.Viewed.{viewed-whole}
 use Rattle.frame.proofs.Refusal.{answer-refused, answer-granted}
-use Rattle.noise.proofs.Seen.{seen-all}
-use Rattle.noise.proofs.Accepted.{plane-of}
+use Rattle.noise.specs.Seen.{Seen}
+use Rattle.noise.proofs.Accepted.{plane-seen}
 use Rattle.profile.specs.Steps.{planeSigma16}
 use Rattle.profile.specs.Answers.{sigmaOf, noSigma, sigmaAnswer, lumaProfile, chromaProfile, estimateOf, noEstimate, estimateAnswer}
 use Rattle.profile.specs.Runs.{SeenAt}
 use Rattle.profile.specs.declared.LumaProfile.{LumaProfile}
 use Rattle.profile.specs.declared.ChromaProfile.{ChromaProfile}
 
-seen-at : (w h : ℕ) {depth : ℕ} {source denoised : List ℕ} → Sides w h → Depth depth → LowPlane (w * h) depth source → LowPlane (w * h) depth denoised
-    → SeenAt depth (whole w h) source denoised
-seen-at w h {depth} {source} {denoised} S d p q =
-    record {
-      least-depth = d .least;
-      most-depth = d .most;
-      seen = seen-all (plane-of w h depth source denoised p q) (S .wide) (S .high);
-      source-low = p .below;
-      denoised-low = q .below;
-    }
+seen-at : {n depth : ℕ} {v : View} {source denoised : List ℕ} → Depth depth → Seen v source denoised → LowPlane n depth source → LowPlane n depth denoised → SeenAt depth v source denoised
+seen-at d S p q = record { least-depth = d .least; most-depth = d .most; seen = S; source-low = p .below; denoised-low = q .below }
 
 -- ---- plane_sigma16
 module _ (w h depth : ℕ) (source denoised : List ℕ) {n : ℕ} (e : n ≡ pairRefusal w h depth source denoised) where
@@ -69,6 +61,8 @@ module _ (s : Shape) (y cb cr y-denoised cb-denoised cr-denoised : List ℕ) {n 
     pub estimate-seen : SeenAt (s .depth) luma y y-denoised × SeenAt (s .depth) chroma cb cb-denoised × SeenAt (s .depth) chroma cr cr-denoised
     estimate-seen =
         let f = frame-call s y cb cr y-denoised cb-denoised cr-denoised (sym e ∙ z) in
-        let d = f .shape .depth in
-        let k = chroma-sides s (f .shape .size) in
-        rw (l, c) (seen-at _ _ (f .shape .size) d (f .source .y) (f .copy .y), seen-at _ _ k d (f .source .cb) (f .copy .cb), seen-at _ _ k d (f .source .cr) (f .copy .cr))
+        let k = f .shape in
+        rw (l, c)
+        (seen-at (k .depth) (plane-seen s Y k (f .source .y) (f .copy .y)) (f .source .y) (f .copy .y),
+        seen-at (k .depth) (plane-seen s CbCr k (f .source .cb) (f .copy .cb)) (f .source .cb) (f .copy .cb),
+        seen-at (k .depth) (plane-seen s CbCr k (f .source .cr) (f .copy .cr)) (f .source .cr) (f .copy .cr))

@@ -8,14 +8,15 @@ use lib.Dec.{lit<}
 use lib.ListN.{length}
 use Rattle.laws.specs.Loop.{loop, turns}
 use Rattle.laws.specs.Limits.{sideLimit}
-use Rattle.frame.specs.Planes.{samplesOf}
+use Rattle.frame.specs.Planes.{samplesOf, viewOf, cropped, croppedFrame}
 use Rattle.frame.specs.declared.Shape.{Shape}
-use Rattle.frame.specs.declared.view.Component.the-variants.{CbCr}
+use Rattle.frame.specs.declared.view.Component.the-variants.{Y, CbCr}
 use Rattle.frame.specs.Size.{chromaWidth, chromaHeight}
 use Rattle.frame.specs.Calls.{pairRefusal, frameRefusal}
 use Rattle.frame.proofs.Facts.{Sides, Depth, LowPlane, chroma-sides}
 use Rattle.frame.proofs.Size.{area-le}
-use Rattle.frame.proofs.Viewed.{viewed-whole}
+use Rattle.frame.proofs.Viewed.{viewed-length, viewed-whole}
+use Rattle.frame.proofs.Cropped.{cropped-whole, cropped-frame-call, cropped-frame-passes}
 use Rattle.frame.proofs.Accepted.{pair-call, frame-call}
 use Rattle.frame.proofs.Refusal.{refused, granted}
 use Rattle.float.specs.Steps.{sigma16Of}
@@ -55,29 +56,21 @@ module _ (s : Shape) (y cb cr y-denoised cb-denoised cr-denoised : List ℕ) whe
   abbrev answer : NoiseEstimate
   answer = estimateAnswer s y cb cr y-denoised cb-denoised cr-denoised
 
-  pub estimate-is : number ≡ 0 → answer ≡ estimateOf (lumaProfile (s .depth) y y-denoised) (chromaProfile (s .depth) cb cb-denoised) (chromaProfile (s .depth) cr cr-denoised)
+  pub estimate-is : number ≡ 0
+      → answer ≡ estimateOf (lumaProfile (s .depth) (cropped s Y y) (cropped s Y y-denoised)) (chromaProfile (s .depth) (cropped s CbCr cb) (cropped s CbCr cb-denoised)) (chromaProfile (s .depth) (cropped s CbCr cr) (cropped s CbCr cr-denoised))
   unfolding estimateAnswer
-  estimate-is e =
-      let c = frame-call s y cb cr y-denoised cb-denoised cr-denoised e in
-      let luma = viewed-whole (s .width) (s .height) in
-      let chroma = viewed-whole (chromaWidth (s .format) (s .width)) (chromaHeight (s .format) (s .height)) in
-      granted number _ _ e
-      ∙ (λ i.
-      estimateOf
-      (lumaProfile (s .depth) (luma y (c .source .y .samples) i) (luma y-denoised (c .copy .y .samples) i))
-      (chromaProfile (s .depth) (chroma cb (c .source .cb .samples) i) (chroma cb-denoised (c .copy .cb .samples) i))
-      (chromaProfile (s .depth) (chroma cr (c .source .cr .samples) i) (chroma cr-denoised (c .copy .cr .samples) i)))
+  estimate-is e = granted number _ _ e
 
   pub estimate-worded : number ≡ 0 → EstimateInWords s y cb cr y-denoised cb-denoised cr-denoised answer
   estimate-worded e =
-      let c = frame-call s y cb cr y-denoised cb-denoised cr-denoised e in
+      let c = cropped-frame-call s y cb cr y-denoised cb-denoised cr-denoised (frame-call s y cb cr y-denoised cb-denoised cr-denoised e) in
       let d = c .shape .depth in
       let luma = c .shape .size in
-      let chroma = chroma-sides s luma in
+      let chroma = chroma-sides (croppedFrame s) luma in
       record {
-        y-profile = profile 3 64 (s .depth - 8) y y-denoised;
-        cb-profile = profile 2 32 (s .depth - 8) cb cb-denoised;
-        cr-profile = profile 2 32 (s .depth - 8) cr cr-denoised;
+        y-profile = profile 3 64 (s .depth - 8) (cropped s Y y) (cropped s Y y-denoised);
+        cb-profile = profile 2 32 (s .depth - 8) (cropped s CbCr cb) (cropped s CbCr cb-denoised);
+        cr-profile = profile 2 32 (s .depth - 8) (cropped s CbCr cr) (cropped s CbCr cr-denoised);
         answer = estimate-is e;
         y-words = in-words (low luma d (c .source .y) (c .copy .y)) 3 64 (lit< tt);
         cb-words = in-words (low chroma d (c .source .cb) (c .copy .cb)) 2 32 (lit< tt);
@@ -114,12 +107,27 @@ pub monochrome : (s : Shape) (y cb cr y-denoised cb-denoised cr-denoised : List 
     → (estimateAnswer s y cb cr y-denoised cb-denoised cr-denoised .cb ≡ chromaOf (noProfile 4)) × (estimateAnswer s y cb cr y-denoised cb-denoised cr-denoised .cr ≡ chromaOf (noProfile 4))
 unfolding chromaWidth chromaHeight
 monochrome s y cb cr y-denoised cb-denoised cr-denoised m e =
-    let c = frame-call s y cb cr y-denoised cb-denoised cr-denoised e in
     let a = estimate-is s y cb cr y-denoised cb-denoised cr-denoised e in
-    ((λ i. (a i) .cb) ∙ gone cb cb-denoised (c .source .cb .samples), (λ i. (a i) .cr) ∙ gone cr cr-denoised (c .source .cr .samples))
+    ((λ i. (a i) .cb) ∙ gone cb cb-denoised, (λ i. (a i) .cr) ∙ gone cr cr-denoised)
   where
-    no-samples : samplesOf s CbCr ≡ 0
-    no-samples = ap (λ (f : ℕ). chromaWidth f (s .width) * chromaHeight f (s .height)) m
+    no-samples : samplesOf (croppedFrame s) CbCr ≡ 0
+    no-samples = ap (λ (f : ℕ). chromaWidth f (s .active .width) * chromaHeight f (s .active .height)) m
 
-    gone : (xs b : List ℕ) → length xs ≡ samplesOf s CbCr → chromaProfile (s .depth) xs b ≡ chromaOf (noProfile 4)
-    gone xs b l = rw (empty xs (l ∙ no-samples)) (none (s .depth) b)
+    gone : (c c-denoised : List ℕ) → chromaProfile (s .depth) (cropped s CbCr c) (cropped s CbCr c-denoised) ≡ chromaOf (noProfile 4)
+    gone c c-denoised = rw (empty (cropped s CbCr c) (viewed-length (viewOf s CbCr) c ∙ no-samples)) (none (s .depth) (cropped s CbCr c-denoised))
+
+-- ---- an accepted call with a rectangle answers as the call on the cropped planes with a whole frame
+pub estimate-cropped : (s : Shape) (y cb cr y-denoised cb-denoised cr-denoised : List ℕ) → frameRefusal s y cb cr y-denoised cb-denoised cr-denoised ≡ 0
+    → estimateAnswer s y cb cr y-denoised cb-denoised cr-denoised
+    ≡ estimateAnswer (croppedFrame s) (cropped s Y y) (cropped s CbCr cb) (cropped s CbCr cr) (cropped s Y y-denoised) (cropped s CbCr cb-denoised) (cropped s CbCr cr-denoised)
+estimate-cropped s y cb cr y-denoised cb-denoised cr-denoised e =
+    let luma = cropped-whole s Y in
+    let chroma = cropped-whole s CbCr in
+    estimate-is s y cb cr y-denoised cb-denoised cr-denoised e
+    ∙ sym
+    (estimate-is (croppedFrame s) _ _ _ _ _ _ (cropped-frame-passes s y cb cr y-denoised cb-denoised cr-denoised e)
+    ∙ (λ i.
+    estimateOf
+    (lumaProfile (s .depth) (luma y i) (luma y-denoised i))
+    (chromaProfile (s .depth) (chroma cb i) (chroma cb-denoised i))
+    (chromaProfile (s .depth) (chroma cr i) (chroma cr-denoised i))))

@@ -5,7 +5,7 @@ use lib.ListN.{replicate}
 use Rattle.frame.specs.Questions.{accepted}
 use Rattle.frame.specs.Calls.{pairRefusal, frameRefusal}
 use Rattle.frame.specs.View.{viewed, whole}
-use Rattle.frame.specs.Planes.{viewOf}
+use Rattle.frame.specs.Planes.{cropped}
 use Rattle.frame.specs.declared.Shape.{Shape}
 use Rattle.frame.specs.declared.view.Component.the-variants.{Y, CbCr}
 use Rattle.profile.specs.Steps.{Profile, planeSigma16, profile}
@@ -62,11 +62,9 @@ unfoldable pub estimateAnswer : Shape → List ℕ → List ℕ → List ℕ →
 unfolding frameRefusal profile viewed
 estimateAnswer s y cb cr y-denoised cb-denoised cr-denoised =
     let n = frameRefusal s y cb cr y-denoised cb-denoised cr-denoised in
-    let luma = viewOf s Y in
-    let chroma = viewOf s CbCr in
     accepted n
     (estimateOf
-    (lumaProfile (s .depth) (viewed luma y) (viewed luma y-denoised))
-    (chromaProfile (s .depth) (viewed chroma cb) (viewed chroma cb-denoised))
-    (chromaProfile (s .depth) (viewed chroma cr) (viewed chroma cr-denoised)))
+    (lumaProfile (s .depth) (cropped s Y y) (cropped s Y y-denoised))
+    (chromaProfile (s .depth) (cropped s CbCr cb) (cropped s CbCr cb-denoised))
+    (chromaProfile (s .depth) (cropped s CbCr cr) (cropped s CbCr cr-denoised)))
     (noEstimate n)

@@ -6,7 +6,9 @@ use lib.IntN.{ℤ, pos, negℤ}
 use lib.ListN.{length, getD}
 use lib.Signed.{_≤ℤ_}
 use Rattle.laws.specs.Limits.{planeLimit}
+use Rattle.frame.specs.Planes.{cropped}
 use Rattle.frame.specs.declared.Shape.{Shape}
+use Rattle.frame.specs.declared.view.Component.the-variants.{Y, CbCr}
 use Rattle.float.specs.Sigma.{Nearest16}
 use Rattle.laws.specs.Sums.{sumN, sumOf}
 use Rattle.profile.specs.Shifted.{shiftedNoise, square}
@@ -42,12 +44,12 @@ pub record InWords (bits least shift : ℕ) (source denoised : List ℕ) (p : Pr
   pub own : (j : ℕ) → j < 2 ^ bits → max (length source / 100) least ≤ getD (p .count) j 0 → Nearest16 (getD (p .squares) j 0) (getD (p .count) j 0) (getD (p .binSigma16) j 0)
   pub other : (j : ℕ) → j < 2 ^ bits → getD (p .count) j 0 < max (length source / 100) least → getD (p .binSigma16) j 0 ≡ p .sigma16
 
--- the answer of an accepted frame call: eight luma bins of at least 64 samples, four chroma bins of at least 32
+-- the answer of an accepted frame call: eight luma bins of at least 64 samples, four chroma bins of at least 32, of the planes inside the active rectangle
 pub record EstimateInWords (s : Shape) (y cb cr y-denoised cb-denoised cr-denoised : List ℕ) (e : NoiseEstimate) : Type 0 where
   pub y-profile : Profile
   pub cb-profile : Profile
   pub cr-profile : Profile
   pub answer : e ≡ estimateOf (lumaOf y-profile) (chromaOf cb-profile) (chromaOf cr-profile)
-  pub y-words : InWords 3 64 (s .depth - 8) y y-denoised y-profile
-  pub cb-words : InWords 2 32 (s .depth - 8) cb cb-denoised cb-profile
-  pub cr-words : InWords 2 32 (s .depth - 8) cr cr-denoised cr-profile
+  pub y-words : InWords 3 64 (s .depth - 8) (cropped s Y y) (cropped s Y y-denoised) y-profile
+  pub cb-words : InWords 2 32 (s .depth - 8) (cropped s CbCr cb) (cropped s CbCr cb-denoised) cb-profile
+  pub cr-words : InWords 2 32 (s .depth - 8) (cropped s CbCr cr) (cropped s CbCr cr-denoised) cr-profile

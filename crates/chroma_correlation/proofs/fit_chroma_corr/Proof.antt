@@ -1,11 +1,16 @@
 -- `chroma_correlation::fit_chroma_corr`: the questions, then the correlations of what the frame's geometry shows. Assumes nothing.
+use mathlib.Core.Path.{sym, _∙_}
 use borrow.Author.Needs.{needs}
+use Rattle.frame.proofs.Accepted.{frame-inside}
 use Rattle.chroma_correlation.proofs.Answers.{refused, shown, answered}
 use Rattle.chroma_correlation.proofs.fit_chroma_corr.Statement.{statement}
 use Rattle.chroma_correlation.proofs.fit_chroma_corr.Tie as tie
 
 returns : tie.Need-returns
 returns c = refused _ _ _ _ _ _ _ _ (c .before .frame-refusal .ensures) (c .if1 .taken)
+
+geometry-requires : tie.Need-geometry-requires
+geometry-requires c κs = frame-inside _ _ _ _ _ _ _ (sym (c .before .frame-refusal .ensures) ∙ c .if1 .left)
 
 correlate-requires : tie.Need-correlate-requires
 correlate-requires c κs =
@@ -19,4 +24,4 @@ returns-2 c =
     answered _ _ _ _ _ _ _ _ (k .before .frame-refusal .ensures) _ (k .if1 .left) (rw (G .geometry .ensures) at (c .correlate .ensures))
 
 pub fit-chroma-corr-spec : {M : Type 1} → statement M
-fit-chroma-corr-spec = tie.close (tie.spec (λ c κs. search needs) returns (λ c κs. search needs) correlate-requires returns-2)
+fit-chroma-corr-spec = tie.close (tie.spec (λ c κs. search needs) returns geometry-requires correlate-requires returns-2)

@@ -34,13 +34,13 @@ smooth-plane-requires-2 : tie.Need-smooth-plane-requires-2
 smooth-plane-requires-2 c κs =
     let H = c .before .before .before .before .before in
     let k = known (H .before .before) in
-    rw (H .before .chroma-width .ensures, H .chroma-height .ensures) (le-trans (chroma-width-le _ _) (k .shape .size .wide), k .source .cb .samples, k .to-cb)
+    rw (H .before .width-of .ensures, H .height-of .ensures) (le-trans (chroma-width-le _ _) (k .shape .size .wide), k .source .cb .samples, k .to-cb)
 
 smooth-plane-requires-3 : tie.Need-smooth-plane-requires-3
 smooth-plane-requires-3 c κs =
     let H = c .before .before .before .before .before .before .before .before .before in
     let k = known (H .before .before) in
-    rw (H .before .chroma-width .ensures, H .chroma-height .ensures) (le-trans (chroma-width-le _ _) (k .shape .size .wide), k .source .cr .samples, k .to-cr)
+    rw (H .before .width-of .ensures, H .height-of .ensures) (le-trans (chroma-width-le _ _) (k .shape .size .wide), k .source .cr .samples, k .to-cr)
 
 returns-2 : tie.Need-returns-2
 unfolding denoisedFrame
@@ -49,7 +49,7 @@ returns-2 c =
     let H = D .before .before .before .before .before .before .before .before .before .before in
     let E = H .before .before in
     let S = E .before .before .before .before .before .before .before .before in
-    rw (D .before .before .before .before .before .before .before .before .smooth-plane .ensures, D .before .before .before .before .smooth-plane2 .ensures, D .smooth-plane3 .ensures, H .before .chroma-width .ensures, H .chroma-height .ensures)
+    rw (D .before .before .before .before .before .before .before .before .smooth-plane .ensures, D .before .before .before .before .smooth-plane2 .ensures, D .smooth-plane3 .ensures, H .before .width-of .ensures, H .height-of .ensures)
     (frame-accepted (S .args .s) (lent S) (held S) _ (E .before .denoise-frame-refusal .ensures) (E .if1 .left))
 
 pub denoise-frame-spec : {M : Type 1} → statement M

@@ -5,6 +5,7 @@ use denote.Ref.{now}
 use borrow.Author.Needs.{needs}
 use Prim.Native.Nat.{_≤_}
 use Rattle.frame.specs.Planes.{geometryOf}
+use Rattle.frame.proofs.Accepted.{fit-inside}
 use Rattle.noise.specs.Seen.{SeenFrame}
 use Rattle.noise.proofs.Accepted.{fit-seen}
 use Rattle.positions.proofs.Counts.{neighbours-le}
@@ -15,6 +16,9 @@ use Rattle.fit.proofs.fit_ar_lag.Tie as tie
 -- what is known once the questions are passed
 granted : (c : tie.Else1) → (let a = c .before .before .before .before .before .before .before .before .args in SeenFrame (geometryOf (a .s)) (now (a .y)) (now (a .yden)) (now (a .cb)) (now (a .cbden)) (now (a .cr)) (now (a .crden)) × (a .lag ≤ 3))
 granted c = fit-seen _ _ _ _ _ _ _ _ (sym (c .before .fit-refusal .ensures) ∙ c .if1 .left)
+
+geometry-requires : tie.Need-geometry-requires
+geometry-requires c κs = fit-inside _ _ _ _ _ _ _ _ (sym (c .before .fit-refusal .ensures) ∙ c .if1 .left)
 
 -- luma's list of both, apart
 abbrev parted : tie.After-all-zero → tie.After-apart
@@ -66,7 +70,7 @@ fit-ar-lag-spec =
     (λ c κs. search needs)
     (λ c κs. search needs)
     returns
-    (λ c κs. search needs)
+    geometry-requires
     (λ c κs. granted (c .before) .1)
     luma-fit-requires
     (λ c. search needs)

@@ -2,6 +2,7 @@
 use mathlib.Core.Path.{sym, _∙_, ap}
 use borrow.Author.Needs.{needs}
 use Rattle.frame.specs.declared.view.Component.the-variants.{CbCr}
+use Rattle.frame.proofs.Accepted.{gate-inside}
 use Rattle.noise.proofs.SeenCalls.{first-seen, second-seen}
 use Rattle.gate.specs.Answers.{foundGate}
 use Rattle.gate.proofs.Answers.{chroma-refused, chroma-answered}
@@ -10,6 +11,9 @@ use Rattle.gate.proofs.chroma_noise_gate.Tie as tie
 
 returns : tie.Need-returns
 returns c = c .refused-gate .ensures ∙ chroma-refused _ _ _ _ _ _ (c .before .before .gate-refusal .ensures) (c .before .if1 .taken)
+
+view-requires : tie.Need-view-requires
+view-requires c κs = gate-inside _ CbCr _ _ _ _ (sym (c .before .gate-refusal .ensures) ∙ c .if1 .left)
 
 chroma-finding-requires : tie.Need-chroma-finding-requires
 chroma-finding-requires c κs =
@@ -28,7 +32,7 @@ chroma-noise-gate-spec =
     (λ c κs. search needs)
     (λ c κs. search needs)
     returns
-    (λ c κs. search needs)
+    view-requires
     chroma-finding-requires
     (λ c κs. search needs)
     returns-2)

@@ -4,7 +4,7 @@ use native.Mathlib.Omega.{arith}
 use borrow.Author.Needs.{needs}
 use Rattle.frame.specs.Calls.{gateRefusal}
 use Rattle.frame.specs.declared.view.Component.the-variants.{Y}
-use Rattle.frame.proofs.Accepted.{gate-call}
+use Rattle.frame.proofs.Accepted.{gate-call, gate-inside}
 use Rattle.noise.proofs.SeenCalls.{first-seen, second-seen}
 use Rattle.gate.specs.Answers.{foundGate}
 use Rattle.gate.proofs.Answers.{luma-refused, luma-answered}
@@ -18,11 +18,14 @@ returns c = c .refused-gate .ensures ∙ luma-refused _ _ _ _ _ (c .before .befo
 passed : (c : tie.Else1) → let A = c .before .before .before .before .before .before .args in gateRefusal (A .s) Y (A .src0 .now) (A .den0 .now) (A .src1 .now) (A .den1 .now) ≡ 0
 passed c = sym (c .before .gate-refusal .ensures) ∙ c .if1 .left
 
+view-requires : tie.Need-view-requires
+view-requires c κs = gate-inside _ Y _ _ _ _ (passed c)
+
 luma-finding-requires : tie.Need-luma-finding-requires
 luma-finding-requires c κs =
     let e = passed (c .before .before) in
     let g = gate-call _ Y _ _ _ _ e in
-    rw (c .before .view .ensures) (first-seen _ Y _ _ _ _ e, second-seen _ Y _ _ _ _ e, g .shape .columns, omega (arith, g .shape .depth .most))
+    rw (c .before .view .ensures) (first-seen _ Y _ _ _ _ e, second-seen _ Y _ _ _ _ e, g .shape .across .some, omega (arith, g .shape .depth .most))
 
 returns-2 : tie.Need-returns-2
 returns-2 c =
@@ -36,7 +39,7 @@ film-grain-probe-spec =
     (λ c κs. search needs)
     (λ c κs. search needs)
     returns
-    (λ c κs. search needs)
+    view-requires
     (λ c. gate-call _ Y _ _ _ _ (passed (c .before .before)) .shape .depth .least)
     (λ c. search needs)
     luma-finding-requires

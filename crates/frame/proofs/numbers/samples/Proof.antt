@@ -1,6 +1,6 @@
 -- `frame::numbers::samples` meets its contract: a plane's sides are no longer than luma's, which are within the limit. Assumes nothing.
 use borrow.Author.Needs.{needs}
-use Rattle.frame.proofs.Size.{area-fits, width-le, height-le}
+use Rattle.frame.proofs.Size.{area-fits, columns-le, rows-le}
 use Rattle.frame.proofs.numbers.samples.Statement.{statement}
 use Rattle.frame.proofs.numbers.samples.Tie as tie
 
@@ -8,7 +8,7 @@ mul-result : tie.Need-mul-result
 mul-result c =
     let S = c .before .before in
     rw (c .before .width-of .ensures, c .height-of .ensures)
-    (area-fits (width-le (S .args .s) (S .args .component) (S .pre .0)) (height-le (S .args .s) (S .args .component) (S .pre .1)))
+    (area-fits (columns-le (S .args .s .format) (S .args .component) (S .pre .0)) (rows-le (S .args .s .format) (S .args .component) (S .pre .1)))
 
 returns : tie.Need-returns
 returns c = cc

@@ -1,6 +1,8 @@
 -- `profile::estimate::noise_estimate` meets its contract: a refusal, or the profiles of its planes. Assumes nothing.
-use mathlib.Core.Path.{_∙_}
+use mathlib.Core.Path.{sym, _∙_}
 use borrow.Author.Needs.{needs}
+use Rattle.frame.specs.Inside.{Inside}
+use Rattle.frame.proofs.Accepted.{frame-inside}
 use Rattle.profile.proofs.Answered.{estimate-refused, estimate-accepted, estimate-seen}
 use Rattle.profile.proofs.estimate.noise_estimate.Statement.{statement}
 use Rattle.profile.proofs.estimate.noise_estimate.Tie as tie
@@ -9,6 +11,10 @@ returns : tie.Need-returns
 returns c =
     let A = c .before .before .before .before .before .before .before .before .before .args in
     c .refused .ensures ∙ estimate-refused (A .s) (A .y .now) (A .cb .now) (A .cr .now) (A .y-den .now) (A .cb-den .now) (A .cr-den .now) (c .before .before .frame-refusal .ensures) (c .before .if1 .taken)
+
+-- the rectangle lies in the frame
+in-frame : (c : tie.Else1) → Inside (c .before .before .before .before .before .before .before .before .args .s)
+in-frame c = frame-inside _ _ _ _ _ _ _ (sym (c .before .frame-refusal .ensures) ∙ c .if1 .left)
 
 luma-profile-requires : tie.Need-luma-profile-requires
 luma-profile-requires c κs =
@@ -38,8 +44,8 @@ noise-estimate-spec =
     (λ c. search needs)
     (λ c. search needs)
     returns
-    (λ c. search needs)
-    (λ c. search needs)
+    (λ c κs. in-frame c)
+    (λ c κs. in-frame (c .before))
     luma-profile-requires
     chroma-profile-requires
     chroma-profile-requires-2
