@@ -94,5 +94,5 @@ pub fn fit_chroma_corr(
             cr_mark: float::INSIDE,
         };
     }
-    correlate(y, yden, cb, cbden, cr, crden, s.geometry())
+    correlate(y, yden, cb, cbden, cr, crden, frame::geometry_of(s))
 }

@@ -89,7 +89,7 @@ pub fn fit_ar_lag(
     if refused != 0 {
         return unfitted(refused);
     }
-    let geometry = s.geometry();
+    let geometry = frame::geometry_of(s);
     let count = neighbour_count(lag);
     let mut luma = [0; 24];
     let mut luma_marks = [0; 24];

@@ -1,11 +1,12 @@
--- The active rectangle's part of a plane lies in the plane: along each direction its start and its size, halved or not, end where the plane does or before. By the formats. Assumes nothing.
+-- The active rectangle's part of a plane lies in the plane: along each direction its start and its size, halved or not, end where the plane does or before. And chroma's part lies over luma's: its first column and row are over luma's first. By the formats. Assumes nothing.
 use mathlib.Core.Path.{_≡_, refl}
-use mathlib.Core.Bool.{Bool, true, false}
-use Prim.Native.Nat.{ℕ, zero, suc, _+_, _/_, _%_, _≤_}
+use mathlib.Core.Bool.{true, false}
+use Prim.Native.Nat.{ℕ, zero, suc, _+_, _*_, _/_, _%_, _^_, _≤_}
+use native.Mathlib.Nat.{not-suc-le-zero, mul-one}
 use native.Mathlib.Omega.{arith}
 use borrow.Author.Tests.{lt-leb, ne-eqb}
 use lib.Dec.{leb, eqb}
-use Rattle.frame.specs.Size.{chromaWidth, chromaHeight}
+use Rattle.frame.specs.Size.{chromaWidth, chromaHeight, subX, subY}
 use Rattle.frame.specs.Questions.{halvesAcross, halvesDown}
 use Rattle.frame.specs.Planes.{columnsOf, rowsOf, widthOf, heightOf, activeOf}
 use Rattle.frame.specs.declared.Shape.{Shape}
@@ -47,3 +48,33 @@ module _ (s : Shape) (component : Component) (k : Known s) where
 
   pub active-down : activeOf s component .top + activeOf s component .height ≤ heightOf s component
   active-down = rows-end (s .format) component (s .active .top) (s .active .height) (s .height) (k .down)
+
+-- ---- chroma over luma
+even-half : (x : ℕ) → x % 2 ≡ 0 → (x + 1) / 2 * 2 ≡ x
+even-half x e = omega arith
+
+columns-over : (format start : ℕ) → 1 ≤ format → (halvesAcross format ≡ true → start % 2 ≡ 0) → chromaWidth format start * 2 ^ subX format ≡ start
+unfolding chromaWidth
+columns-over zero start f e = absurd (not-suc-le-zero f)
+columns-over (suc zero) start f e = even-half start (e refl)
+columns-over (suc (suc zero)) start f e = even-half start (e refl)
+columns-over (suc (suc (suc n))) start f e =
+    let f = suc (suc (suc n)) in
+    let a : eqb f 0 ≡ false = ne-eqb f 0 (λ e. omega arith) in
+    let b : leb f 2 ≡ false = lt-leb f 2 (omega arith) in
+    rw (a, b) (mul-one start)
+
+rows-over : (format start : ℕ) → 1 ≤ format → (halvesDown format ≡ true → start % 2 ≡ 0) → chromaHeight format start * 2 ^ subY format ≡ start
+unfolding chromaHeight
+rows-over zero start f e = absurd (not-suc-le-zero f)
+rows-over (suc zero) start f e = even-half start (e refl)
+rows-over (suc (suc n)) start f e =
+    let f = suc (suc n) in
+    let a : eqb f 0 ≡ false = ne-eqb f 0 (λ e. omega arith) in
+    let b : eqb f 1 ≡ false = ne-eqb f 1 (λ e. omega arith) in
+    let c : leb f 1 ≡ false = lt-leb f 1 (omega arith) in
+    rw (a, b, c) (mul-one start)
+
+pub chroma-over : (s : Shape) → Known s → 1 ≤ s .format
+    → (activeOf s CbCr .left * 2 ^ subX (s .format) ≡ s .active .left) × (activeOf s CbCr .top * 2 ^ subY (s .format) ≡ s .active .top)
+chroma-over s k f = (columns-over (s .format) (s .active .left) f (k .across .even), rows-over (s .format) (s .active .top) f (k .down .even))

@@ -39,13 +39,22 @@ part-known {halved} {start} {size} {side} p = rw (le-leb 1 size (p .some), le-le
 shape-passes : {s : Shape} → Known s → firstNo (shapeNumbers s) ≡ 0
 unfolding shapeNumbers
 shape-passes {s} k =
-    all-passed (shapeNumbers s)
-    (rw (le-leb (s .width) sideLimit (k .size .wide), le-leb (s .height) sideLimit (k .size .high)) refl,
-    (rw (le-leb 1 (s .width) (k .columns), le-leb 1 (s .height) (k .rows)) refl,
-    (depth-known (k .depth),
-    (le-leb (s .format) 3 (k .format),
-    (rw (part-known (k .across), part-known (k .down)) refl,
-    tt)))))
+    all-passed (shapeNumbers s) (
+      rw (le-leb (s .width) sideLimit (k .size .wide), le-leb (s .height) sideLimit (k .size .high)) refl,
+      (
+        rw (le-leb 1 (s .width) (k .columns), le-leb 1 (s .height) (k .rows)) refl,
+        (
+          depth-known (k .depth),
+          (
+            le-leb (s .format) 3 (k .format),
+            (
+              rw (part-known (k .across), part-known (k .down)) refl,
+              tt,
+            ),
+          ),
+        ),
+      ),
+    )
 
 each-is : (n : ℕ) (ls : List ℕ) → Each n ls → each n ls ≡ true
 unfolding each
@@ -69,8 +78,10 @@ module _ {s : Shape} where
       let luma = length y ∷ length y-denoised ∷ [] in
       let chroma = length cb ∷ length cr ∷ length cb-denoised ∷ length cr-denoised ∷ [] in
       both (shapeNumbers s) (frameFilled s luma chroma ∷ []) refl (shape-passes (c .shape))
-      (rw (each-is (samplesOf s Y) luma (c .source .y .samples, (c .copy .y .samples, tt)),
-      each-is (samplesOf s CbCr) chroma (c .source .cb .samples, (c .source .cr .samples, (c .copy .cb .samples, (c .copy .cr .samples, tt))))) refl)
+      (rw (
+        each-is (samplesOf s Y) luma (c .source .y .samples, (c .copy .y .samples, tt)),
+        each-is (samplesOf s CbCr) chroma (c .source .cb .samples, (c .source .cr .samples, (c .copy .cb .samples, (c .copy .cr .samples, tt)))),
+      ) refl)
 
   pub frame-passes : {y cb cr y-denoised cb-denoised cr-denoised : List ℕ} → FrameCall s y cb cr y-denoised cb-denoised cr-denoised → frameRefusal s y cb cr y-denoised cb-denoised cr-denoised ≡ 0
   unfolding frameRefusal copyQuestions frameNumbers shapeNumbers

@@ -64,9 +64,11 @@ abbrev pub halvesDown : ℕ → Bool
 halvesDown format = eqb format 1
 
 abbrev pub activeInside : Shape → Question
-activeInside s =
-    (isPart (halvesAcross (s .format)) (s .active .left) (s .active .width) (s .width) &&
-    isPart (halvesDown (s .format)) (s .active .top) (s .active .height) (s .height), 12)
+activeInside s = (
+  isPart (halvesAcross (s .format)) (s .active .left) (s .active .width) (s .width) &&
+      isPart (halvesDown (s .format)) (s .active .top) (s .active .height) (s .height),
+  12,
+)
 
 -- Has every lent plane, destinations included, exactly its number of samples? No: 5. Of planes of one size; and of the luma and the chroma planes of a frame. A plane stands by its length.
 abbrev pub filled : ℕ → ℕ → List ℕ → Question

@@ -1,9 +1,12 @@
 // The shape of a frame, how its planes are looked at, and the questions put to a call.
 mod view; // how a plane is looked at
+mod active; // what a call sees of a frame
 mod questions; // each question, a yes or no
 mod numbers; // the questions about numbers alone
 mod refusals; // all questions of a call
 
+pub use active::geometry_of;
+pub use active::view_of;
 pub use numbers::bits_refusal;
 pub use numbers::frame_numbers;
 pub use numbers::lag_refusal;
@@ -25,8 +28,7 @@ ghost use mathlib.Core.Path.{_≡_};
 ghost use mathlib.Core.Bool.{cond};
 ghost use Prim.Native.Nat.{_+_, _/_};
 ghost use Rattle.frame.specs.Size.{chromaWidth, chromaHeight};
-ghost use Rattle.frame.specs.Planes.{wholeFrame, columnsOf, rowsOf, widthOf, heightOf, viewOf, samplingOf, geometryOf};
-ghost use Rattle.frame.specs.Inside.{Inside};
+ghost use Rattle.frame.specs.Planes.{wholeFrame, columnsOf, rowsOf, widthOf, heightOf, samplingOf};
 
 // The largest width and the largest height.
 pub const SIDE_LIMIT: usize = 4096;
@@ -138,37 +140,5 @@ impl Shape {
         let across = bit(self.format <= 2);
         let down = bit(self.format <= 1);
         Sampling { across, down }
-    }
-
-    // What a call sees of a plane: the active rectangle.
-    pub fn view(self, component: Component) -> View
-        requires { ⌜ Inside self ⌝ }
-        ensures { λ r. ⌜ r ≡ viewOf self component ⌝ }
-    {
-        let step = self.width_of(component);
-        let left = self.columns_of(component, self.active.left);
-        let top = self.rows_of(component, self.active.top);
-        View {
-            start: top * step + left,
-            step,
-            stride: 1,
-            width: self.columns_of(component, self.active.width),
-            height: self.rows_of(component, self.active.height),
-        }
-    }
-
-    // What a call sees of a frame.
-    pub fn geometry(self) -> Geometry
-        requires { ⌜ Inside self ⌝ }
-        ensures { λ r. ⌜ r ≡ geometryOf self ⌝ }
-    {
-        let luma = self.view(Component::Y);
-        let chroma = self.view(Component::CbCr);
-        let sampling = self.sampling();
-        Geometry {
-            luma,
-            chroma,
-            sampling,
-        }
     }
 }

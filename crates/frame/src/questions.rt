@@ -70,7 +70,12 @@ fn is_part(halved: bool, start: usize, size: usize, side: usize) -> bool
 pub fn active_inside(s: Shape) -> bool
     ensures { λ r. ⌜ r ≡ activeInside s .0 ⌝ }
 {
-    let across = is_part((s.format == 1) | (s.format == 2), s.active.left, s.active.width, s.width);
+    let across = is_part(
+        (s.format == 1) | (s.format == 2),
+        s.active.left,
+        s.active.width,
+        s.width,
+    );
     let down = is_part(s.format == 1, s.active.top, s.active.height, s.height);
     across & down
 }

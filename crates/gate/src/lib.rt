@@ -70,7 +70,7 @@ pub fn film_grain_probe(s: Shape, src0: &[u16], den0: &[u16], src1: &[u16], den1
     if n != 0 {
         return refused_gate(n);
     }
-    let view = s.view(Component::Y);
+    let view = frame::view_of(s, Component::Y);
     let shift = (s.depth - 8) as u32;
     found_gate(finding::luma_finding(src0, den0, src1, den1, view, shift))
 }
@@ -90,6 +90,6 @@ pub fn chroma_noise_gate(
     if n != 0 {
         return refused_gate(n);
     }
-    let view = s.view(Component::CbCr);
+    let view = frame::view_of(s, Component::CbCr);
     found_gate(finding::chroma_finding(sigma16, src0, den0, src1, den1, view))
 }

@@ -62,7 +62,8 @@ module _ (s : Shape) (y cb cr y-denoised cb-denoised cr-denoised : List ℕ) {n 
     estimate-seen =
         let f = frame-call s y cb cr y-denoised cb-denoised cr-denoised (sym e ∙ z) in
         let k = f .shape in
-        rw (l, c)
-        (seen-at (k .depth) (plane-seen s Y k (f .source .y) (f .copy .y)) (f .source .y) (f .copy .y),
-        seen-at (k .depth) (plane-seen s CbCr k (f .source .cb) (f .copy .cb)) (f .source .cb) (f .copy .cb),
-        seen-at (k .depth) (plane-seen s CbCr k (f .source .cr) (f .copy .cr)) (f .source .cr) (f .copy .cr))
+        rw (l, c) (
+          seen-at (k .depth) (plane-seen s Y k (f .source .y) (f .copy .y)) (f .source .y) (f .copy .y),
+          seen-at (k .depth) (plane-seen s CbCr k (f .source .cb) (f .copy .cb)) (f .source .cb) (f .copy .cb),
+          seen-at (k .depth) (plane-seen s CbCr k (f .source .cr) (f .copy .cr)) (f .source .cr) (f .copy .cr),
+        )

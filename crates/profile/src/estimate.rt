@@ -105,8 +105,8 @@ pub fn noise_estimate(
     if refusal != 0 {
         return refused(refusal);
     }
-    let chroma = s.view(Component::CbCr);
-    let luma = luma_profile(y, y_den, s.view(Component::Y), s.depth);
+    let chroma = frame::view_of(s, Component::CbCr);
+    let luma = luma_profile(y, y_den, frame::view_of(s, Component::Y), s.depth);
     let blue = chroma_profile(cb, cb_den, chroma, s.depth);
     let red = chroma_profile(cr, cr_den, chroma, s.depth);
     NoiseEstimate {

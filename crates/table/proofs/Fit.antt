@@ -20,4 +20,4 @@ use Rattle.table.specs.Fit.{fit, cases}
 
 pub cases-right : Right fit cases
 unfolding fitAnswer fitOf allZero firstOf lumaFit chromaFit energyF coefficientsOf quantised solvedFit rightOf valueOf matrixOf rowOf cellOf fitF fitRefusal copyQuestions frameNumbers shapeNumbers each low allLow chromaWidth chromaHeight viewed solvedOf answerOf larger pivotOf pivoted cellLess rowLess rowCleared cleared tested column eliminated knownLess unknownOf placed substituted magnitudeOf quantAr mark windowF turns loop add sub mul div lt le ofInt ofBits toSigned positions.positions positions.row positions.turn positions.body
-cases-right = (refl, (refl, (refl, (refl, tt))))
+cases-right = (refl, (refl, (refl, (refl, (refl, (refl, tt))))))

@@ -15,7 +15,7 @@ use Rattle.profile.specs.Steps.{planeSigma16, planeSquares}
 use Rattle.gate.specs.RowCorrelation.{energyF, rowCorrelation}
 use Rattle.gate.specs.Answers.{lumaAnswer, chromaAnswer}
 use Rattle.gate.specs.Tests.{timeTest, lumaRow, temporalBy, lumaBy, chromaBy}
-use Rattle.table.specs.Gates.{lumaFound, chromaFound, rowFound, tests, nearFound, cases, rowCases, testCases, nearCases}
+use Rattle.table.specs.Gates.{lumaFound, chromaFound, rowFound, tests, nearFound, activeFound, activeCases, cases, rowCases, testCases, nearCases}
 
 pub row-cases-right : Right rowFound rowCases
 unfolding rowCorrelation energyF windowF lagF add sub mul div le ofInt ofBits
@@ -28,6 +28,10 @@ luma-cases-right = (refl, (refl, (refl, (refl, tt))))
 pub chroma-cases-right : Right chromaFound cases
 unfolding chromaAnswer viewed gateRefusal gateNumbers shapeNumbers chromaWidth chromaHeight each low allLow chromaBy temporalBy timeTest rowCorrelation energyF lagF magnitudeOf root planeSigma16 planeSquares sigma16Of windowF dotF add sub mul div le lt ofInt ofBits toUnsigned
 chroma-cases-right = (refl, (refl, (refl, (refl, tt))))
+
+pub active-cases-right : Right activeFound activeCases
+unfolding lumaAnswer chromaAnswer viewed gateRefusal gateNumbers shapeNumbers chromaWidth chromaHeight each low allLow lumaBy chromaBy temporalBy timeTest lumaRow rowCorrelation energyF lagF magnitudeOf root planeSigma16 planeSquares sigma16Of windowF dotF add sub mul div le lt ofInt ofBits toUnsigned
+active-cases-right = (refl, (refl, tt))
 
 pub test-cases-right : Right tests testCases
 unfolding timeTest magnitudeOf root mul div lt ofInt ofBits

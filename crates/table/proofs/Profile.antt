@@ -5,13 +5,17 @@ use lib.ListN.{length}
 use lib.Ieee.{mul, div, ofInt, ofBits, toUnsigned}
 use Rattle.table.specs.Cases.{Right}
 use Rattle.frame.specs.Questions.{accepted, each, low, allLow}
-use Rattle.frame.specs.Calls.{pairNumbers, pairRefusal}
+use Rattle.frame.specs.Calls.{pairNumbers, shapeNumbers, frameNumbers, copyQuestions, pairRefusal, frameRefusal}
+use Rattle.frame.specs.Size.{chromaWidth, chromaHeight}
+use Rattle.frame.specs.View.{viewed}
 use Rattle.frame.proofs.Viewed.{viewed-whole}
+use Rattle.laws.specs.Loop.{loop, turns}
+use Rattle.float.specs.Root.{root}
 use Rattle.float.specs.Steps.{sigma16Of}
-use Rattle.profile.specs.Steps.{planeSquares, planeSigma16}
-use Rattle.profile.specs.Answers.{sigmaOf, noSigma, sigmaAnswer}
+use Rattle.profile.specs.Steps.{planeSquares, planeSigma16, totals, sigmaOfBin, profile}
+use Rattle.profile.specs.Answers.{sigmaOf, noSigma, sigmaAnswer, estimateAnswer}
 use Rattle.profile.specs.declared.Sigma.{Sigma}
-use Rattle.table.specs.Profile.{Call, sigma, sigmaCases, bin, binCases, least, leastCases}
+use Rattle.table.specs.Profile.{Call, sigma, sigmaCases, estimate, estimateCases, bin, binCases, least, leastCases}
 
 -- the answer of the planes themselves
 abbrev ofPlanes : Call → Sigma
@@ -27,6 +31,10 @@ pub sigma-cases-right : Right sigma sigmaCases
 unfolding pairRefusal pairNumbers each low allLow planeSigma16 planeSquares sigma16Of mul div ofInt ofBits toUnsigned
 sigma-cases-right =
     (of-planes _ refl refl refl, (of-planes _ refl refl refl, (of-planes _ refl refl refl, (of-planes _ refl refl refl, (of-planes _ refl refl refl, (of-planes _ refl refl refl, (of-planes _ refl refl refl, tt)))))))
+
+pub estimate-cases-right : Right estimate estimateCases
+unfolding estimateAnswer viewed profile totals sigmaOfBin frameRefusal copyQuestions frameNumbers shapeNumbers chromaWidth chromaHeight each low allLow sigma16Of loop turns root mul div ofInt ofBits toUnsigned
+estimate-cases-right = (refl, (refl, tt))
 
 pub bin-cases-right : Right bin binCases
 bin-cases-right = (refl, (refl, (refl, (refl, (refl, tt)))))

@@ -11,6 +11,9 @@ use lib.Ieee.{Float, fin, binary64, ofInt}
 use Rattle.laws.specs.Sums.{sumTo}
 use Rattle.noise.specs.Noise.{Pair, pair}
 use Rattle.table.specs.Cases.{Case, row}
+use Rattle.table.specs.Questions.{at, within}
+use Rattle.frame.specs.Planes.{wholeFrame}
+use Rattle.frame.specs.declared.Rectangle.{Rectangle}
 use Rattle.frame.specs.declared.Shape.{Shape}
 use Rattle.profile.specs.Steps.{planeSigma16}
 use Rattle.gate.specs.RowCorrelation.{rowCorrelation}
@@ -47,27 +50,30 @@ minus = negsuc 0
 
 -- 4:4:4
 abbrev shape : ℕ → Frames → Shape
-shape depth f = record { width = length (f .first); height = height; depth = depth; format = 3 }
+shape depth f = wholeFrame (length (f .first)) height depth 3
 
 abbrev sigma16 : Frames → ℕ
 sigma16 f = planeSigma16 0 (plane (f .first) .source) (plane (f .first) .denoised)
 
-abbrev luma : ℕ → Frames → Gate
-luma depth f =
+abbrev luma : Shape → Frames → Gate
+luma s f =
     let p = plane (f .first) in
     let q = plane (f .second) in
-    lumaAnswer (shape depth f) (p .source) (p .denoised) (q .source) (q .denoised)
+    lumaAnswer s (p .source) (p .denoised) (q .source) (q .denoised)
+
+abbrev chroma : Shape → Frames → ℕ → Gate
+chroma s f sigma16 =
+    let p = plane (f .first) in
+    let q = plane (f .second) in
+    chromaAnswer s (p .source) (p .denoised) (q .source) (q .denoised) sigma16
 
 -- 8 bits
 abbrev pub lumaFound : Frames → Gate
-lumaFound f = luma 8 f
+lumaFound f = luma (shape 8 f) f
 
 -- handed luma's sigma16
 abbrev pub chromaFound : Frames → Gate
-chromaFound f =
-    let p = plane (f .first) in
-    let q = plane (f .second) in
-    chromaAnswer (shape 8 f) (p .source) (p .denoised) (q .source) (q .denoised) (sigma16 f)
+chromaFound f = chroma (shape 8 f) f (sigma16 f)
 
 abbrev yes : Gate
 yes = record { refusal = 0; yes = true }
@@ -84,6 +90,24 @@ cases =
     row (record { first = plus ∷ plus ∷ plus ∷ minus ∷ []; second = plus ∷ minus ∷ plus ∷ plus ∷ [] }) yes ∷
     row (record { first = ten; second = minus ∷ minus ∷ plus ∷ minus ∷ plus ∷ plus ∷ minus ∷ minus ∷ plus ∷ plus ∷ [] }) no ∷
     row (record { first = ten; second = minus ∷ minus ∷ plus ∷ plus ∷ plus ∷ plus ∷ minus ∷ minus ∷ plus ∷ plus ∷ [] }) yes ∷ []
+
+-- ---- in an active rectangle: both gates, chroma's handed 16
+abbrev pub activeFound : Rectangle × Frames → Gate × Gate
+activeFound (active, f) =
+    let s = within (length (f .first)) height 3 active in
+    (luma s f, chroma s f 16)
+
+-- the second row above, between columns that stand still: no in the whole frame, yes inside
+abbrev still : Frames
+still = record {
+  first = pos 9 ∷ plus ∷ plus ∷ plus ∷ minus ∷ pos 9 ∷ [];
+  second = pos 9 ∷ plus ∷ minus ∷ plus ∷ plus ∷ pos 9 ∷ [];
+}
+
+abbrev pub activeCases : List (Case (Rectangle × Frames) (Gate × Gate))
+activeCases =
+    row (at 0 0 6 1, still) (no, no) ∷
+    row (at 1 0 4 1, still) (yes, yes) ∷ []
 
 -- the row correlation at lag 1: 3/4, 1/4, and a plane that is as wide as the lag
 abbrev pub rowFound : List ℤ → Float
@@ -121,7 +145,7 @@ exactDot a b = natAbs (sumTo (λ i. getD a i (pos 0) *ℤ getD b i (pos 0)) (len
 
 abbrev pub nearFound : Frames → Bool × Gate
 nearFound f =
-    (squaresBelow (record { cross = exactDot (f .first) (f .second); e₀ = exactDot (f .first) (f .first); e₁ = exactDot (f .second) (f .second) }), luma 12 f)
+    (squaresBelow (record { cross = exactDot (f .first) (f .second); e₀ = exactDot (f .first) (f .first); e₁ = exactDot (f .second) (f .second) }), luma (shape 12 f) f)
 
 -- their sums are those of the second row above
 abbrev pub nearCases : List (Case Frames (Bool × Gate))

@@ -1,10 +1,12 @@
--- "Sizes 4,096 and 4,097; sample 255 and 256 at 8 bits; register bits 16 and 17." Refusals worked by hand: also empty planes, an unknown depth and format, a length off by one; and of two faults the first in the scope's order.
+-- "Sizes 4,096 and 4,097; sample 255 and 256 at 8 bits; register bits 16 and 17." Refusals worked by hand: also empty planes, an unknown depth and format, a bad active rectangle, a length off by one; and of two faults the first in the scope's order.
 use mathlib.Core.List.{List, [], _∷_, _++_}
-use Prim.Native.Nat.{ℕ, _-_}
-use lib.ListN.{replicate}
+use Prim.Native.Nat.{ℕ, _-_, _^_}
+use lib.ListN.{getD, replicate}
 use Rattle.table.specs.Cases.{Case, row}
 use Rattle.frame.specs.Questions.{firstNo, orderKnown, bitsKnown}
 use Rattle.frame.specs.Calls.{planeRefusal, pairRefusal, frameRefusal, fitRefusal, gateRefusal, denoiseFrameRefusal}
+use Rattle.frame.specs.Planes.{wholeFrame}
+use Rattle.frame.specs.declared.Rectangle.{Rectangle}
 use Rattle.frame.specs.declared.Shape.{Shape}
 use Rattle.frame.specs.declared.view.Component.the-variants.{Y, CbCr}
 
@@ -45,7 +47,14 @@ pairCases =
 -- ---- frames: width, height, depth, format
 
 abbrev pub shape : ℕ → ℕ → ℕ → ℕ → Shape
-shape w h depth format = record { width = w; height = h; depth = depth; format = format }
+shape w h depth format = wholeFrame w h depth format
+
+-- left, top, width, height; and a frame of 8 bits that is active there
+abbrev pub at : ℕ → ℕ → ℕ → ℕ → Rectangle
+at left top w h = record { left = left; top = top; width = w; height = h }
+
+abbrev pub within : ℕ → ℕ → ℕ → Rectangle → Shape
+within w h format active = record { width = w; height = h; depth = 8; format = format; active = active }
 
 -- a plane of n zeros, and one with 256 at its end
 abbrev pub flat : ℕ → List ℕ
@@ -82,7 +91,44 @@ frameCases =
     row (shape 3 3 8 1, (flat 9, flat 4, high 4), (flat 9, flat 4, flat 4)) 6 ∷
     row (shape 3 3 8 1, (flat 9, flat 4, flat 4), (high 9, flat 4, flat 4)) 6 ∷
     row (shape 3 3 8 1, (flat 9, flat 4, flat 4), (flat 9, high 4, flat 4)) 6 ∷
-    row (shape 3 3 8 1, (flat 9, flat 4, flat 4), (flat 9, flat 4, high 4)) 6 ∷ []
+    row (shape 3 3 8 1, (flat 9, flat 4, flat 4), (flat 9, flat 4, high 4)) 6 ∷
+    row (within 5 5 4 (at 5 5 5 5), ([], [], []), ([], [], [])) 4 ∷
+    row (within 5 5 1 (at 5 5 5 5), ([], [], []), ([], [], [])) 12 ∷
+    row (within 5 5 0 (at 0 0 1 1), (high 25, [], []), (flat 25, [], [])) 6 ∷ []
+
+-- a frame of 5 × 5 in a format, with an active rectangle, and with nothing else to refuse: its chroma planes are 0 × 0, 3 × 3, 3 × 5 or 5 × 5
+abbrev chroma : ℕ → ℕ
+chroma format = getD (0 ∷ 9 ∷ 15 ∷ 25 ∷ []) format 0
+
+abbrev pub active : ℕ × Rectangle → ℕ
+active (format, rectangle) =
+    let planes : Three = (flat 25, flat (chroma format), flat (chroma format)) in
+    frame (within 5 5 format rectangle, planes, planes)
+
+-- whole; empty; at an end, and past it; at an odd place; and with the largest number
+abbrev pub activeCases : List (Case (ℕ × Rectangle) ℕ)
+activeCases =
+    row (0, at 0 0 5 5) 0 ∷
+    row (1, at 0 0 5 5) 0 ∷
+    row (2, at 0 0 5 5) 0 ∷
+    row (3, at 0 0 5 5) 0 ∷
+    row (1, at 0 0 0 5) 12 ∷
+    row (1, at 0 0 5 0) 12 ∷
+    row (1, at 2 2 3 3) 0 ∷
+    row (1, at 2 2 4 3) 12 ∷
+    row (1, at 2 2 3 4) 12 ∷
+    row (1, at 4 0 1 5) 0 ∷
+    row (1, at 0 4 5 1) 0 ∷
+    row (1, at 1 0 2 2) 12 ∷
+    row (1, at 0 1 2 2) 12 ∷
+    row (2, at 1 0 2 2) 12 ∷
+    row (2, at 0 1 2 2) 0 ∷
+    row (0, at 1 1 2 2) 0 ∷
+    row (3, at 1 1 2 2) 0 ∷
+    row (3, at (2 ^ 64 - 1) 0 1 5) 12 ∷
+    row (3, at 0 (2 ^ 64 - 1) 5 2) 12 ∷
+    row (3, at 1 0 (2 ^ 64 - 1) 5) 12 ∷
+    row (3, at 0 2 5 (2 ^ 64 - 1)) 12 ∷ []
 
 -- a frame, its copy and a lag
 abbrev pub fit : Shape × Three × Three × ℕ → ℕ
@@ -92,7 +138,8 @@ abbrev pub fitCases : List (Case (Shape × Three × Three × ℕ) ℕ)
 fitCases =
     row (shape 1 1 8 0, (flat 1, [], []), (flat 1, [], []), 3) 0 ∷
     row (shape 1 1 8 0, (flat 1, [], []), (flat 1, [], []), 4) 7 ∷
-    row (shape 1 1 8 0, (flat 1, [], []), (high 1, [], []), 4) 6 ∷ []
+    row (shape 1 1 8 0, (flat 1, [], []), (high 1, [], []), 4) 6 ∷
+    row (within 1 1 0 (at 1 0 1 1), (flat 1, [], []), (high 1, [], []), 4) 12 ∷ []
 
 -- a frame and the lengths of its destinations
 abbrev pub denoiseFrame : Shape × Three × (ℕ × ℕ × ℕ) → ℕ
@@ -105,7 +152,8 @@ denoiseFrameCases =
     row (shape 3 3 8 1, (high 9, flat 4, flat 4), (8, 4, 4)) 5 ∷
     row (shape 3 3 8 1, (flat 9, flat 4, flat 4), (9, 5, 4)) 5 ∷
     row (shape 3 3 8 1, (flat 9, flat 4, flat 4), (9, 4, 9)) 5 ∷
-    row (shape 3 3 9 1, (flat 9, flat 4, flat 4), (9, 4, 4)) 3 ∷ []
+    row (shape 3 3 9 1, (flat 9, flat 4, flat 4), (9, 4, 4)) 3 ∷
+    row (within 3 3 1 (at 1 0 2 3), (flat 9, flat 4, flat 4), (9, 4, 4)) 12 ∷ []
 
 -- ---- gates: one component of two frames and of their copies
 
@@ -124,7 +172,8 @@ lumaGateCases =
     row (shape 3 3 8 1, (flat 9, high 9, flat 9, flat 9)) 6 ∷
     row (shape 3 3 8 1, (flat 9, flat 9, high 9, flat 9)) 6 ∷
     row (shape 3 3 8 1, (flat 9, flat 9, flat 9, high 9)) 6 ∷
-    row (shape 3 3 8 1, (high 9, flat 9, flat 9, flat 8)) 5 ∷ []
+    row (shape 3 3 8 1, (high 9, flat 9, flat 9, flat 8)) 5 ∷
+    row (within 3 3 1 (at 0 1 3 2), (flat 9, flat 9, flat 9, flat 8)) 12 ∷ []
 
 abbrev pub chromaGate : Shape × Four → ℕ
 chromaGate (s, (a, b, c, d)) = gateRefusal s CbCr a b c d
@@ -134,7 +183,8 @@ chromaGateCases =
     row (shape 3 3 8 0, ([], [], [], [])) 0 ∷
     row (shape 3 3 8 1, (flat 4, flat 4, flat 4, flat 4)) 0 ∷
     row (shape 3 3 8 1, (flat 9, flat 9, flat 9, flat 9)) 5 ∷
-    row (shape 3 3 8 1, (flat 4, flat 4, high 4, flat 4)) 6 ∷ []
+    row (shape 3 3 8 1, (flat 4, flat 4, high 4, flat 4)) 6 ∷
+    row (within 3 3 1 (at 0 1 3 2), (flat 4, flat 4, high 4, flat 4)) 12 ∷ []
 
 -- ---- "Order 0 and 26: 8."; the register's bits
 

@@ -33,7 +33,8 @@ pub record Table : Type 0 where
   pub sigma16 : Right Profile.sigma Profile.sigmaCases
   pub sigma16-of-noise : Right Float.sigma Float.sigmaCases
   pub sigma16-by-whole-root : Right Float.wholeSigma Float.sigmaCases
-  -- bins, and how many samples a bin wants
+  -- a letterboxed frame's profile; bins, and how many samples a bin wants
+  pub letterboxed : Right Profile.estimate Profile.estimateCases
   pub bins : Right Profile.bin Profile.binCases
   pub least-counts : Right Profile.least Profile.leastCases
   -- * coefficients, by the Rust's steps and in words; coefficients with their marks; roots, the digits worked for them, and rounded numbers
@@ -56,6 +57,7 @@ pub record Table : Type 0 where
   -- gates and row correlation
   pub luma-gate : Right Gates.lumaFound Gates.cases
   pub chroma-gate : Right Gates.chromaFound Gates.cases
+  pub active-gates : Right Gates.activeFound Gates.activeCases
   pub row-correlation : Right Gates.rowFound Gates.rowCases
   -- the temporal test beside the comparison of squares that it is not, of sums and of frames
   pub temporal-test : Right Gates.tests Gates.testCases
@@ -63,10 +65,11 @@ pub record Table : Type 0 where
   -- * seeds; * the register
   pub seeds : Right seed Random.seeds
   pub draws : Right Random.asked Random.draws
-  -- sizes, samples, orders and bits that are refused, for each kind of call
+  -- sizes, samples, rectangles, orders and bits that are refused, for each kind of call
   pub planes-asked : Right Questions.plane Questions.planeCases
   pub pairs-asked : Right Questions.pair Questions.pairCases
   pub frames-asked : Right Questions.frame Questions.frameCases
+  pub active-asked : Right Questions.active Questions.activeCases
   pub fits-asked : Right Questions.fit Questions.fitCases
   pub denoise-frames-asked : Right Questions.denoiseFrame Questions.denoiseFrameCases
   pub luma-gates-asked : Right Questions.lumaGate Questions.lumaGateCases

@@ -9,19 +9,19 @@ use Rattle.chroma_correlation.proofs.fit_chroma_corr.Tie as tie
 returns : tie.Need-returns
 returns c = refused _ _ _ _ _ _ _ _ (c .before .frame-refusal .ensures) (c .if1 .taken)
 
-geometry-requires : tie.Need-geometry-requires
-geometry-requires c κs = frame-inside _ _ _ _ _ _ _ (sym (c .before .frame-refusal .ensures) ∙ c .if1 .left)
+geometry-of-requires : tie.Need-geometry-of-requires
+geometry-of-requires c κs = frame-inside _ _ _ _ _ _ _ (sym (c .before .frame-refusal .ensures) ∙ c .if1 .left)
 
 correlate-requires : tie.Need-correlate-requires
 correlate-requires c κs =
     let k = c .before in
-    rw (c .geometry .ensures) (shown _ _ _ _ _ _ _ _ (k .before .frame-refusal .ensures) (k .if1 .left))
+    rw (c .geometry-of .ensures) (shown _ _ _ _ _ _ _ _ (k .before .frame-refusal .ensures) (k .if1 .left))
 
 returns-2 : tie.Need-returns-2
 returns-2 c =
     let G = c .before in
     let k = G .before in
-    answered _ _ _ _ _ _ _ _ (k .before .frame-refusal .ensures) _ (k .if1 .left) (rw (G .geometry .ensures) at (c .correlate .ensures))
+    answered _ _ _ _ _ _ _ _ (k .before .frame-refusal .ensures) _ (k .if1 .left) (rw (G .geometry-of .ensures) at (c .correlate .ensures))
 
 pub fit-chroma-corr-spec : {M : Type 1} → statement M
-fit-chroma-corr-spec = tie.close (tie.spec (λ c κs. search needs) returns geometry-requires correlate-requires returns-2)
+fit-chroma-corr-spec = tie.close (tie.spec (λ c κs. search needs) returns geometry-of-requires correlate-requires returns-2)

@@ -17,8 +17,8 @@ use Rattle.fit.proofs.fit_ar_lag.Tie as tie
 granted : (c : tie.Else1) → (let a = c .before .before .before .before .before .before .before .before .args in SeenFrame (geometryOf (a .s)) (now (a .y)) (now (a .yden)) (now (a .cb)) (now (a .cbden)) (now (a .cr)) (now (a .crden)) × (a .lag ≤ 3))
 granted c = fit-seen _ _ _ _ _ _ _ _ (sym (c .before .fit-refusal .ensures) ∙ c .if1 .left)
 
-geometry-requires : tie.Need-geometry-requires
-geometry-requires c κs = fit-inside _ _ _ _ _ _ _ _ (sym (c .before .fit-refusal .ensures) ∙ c .if1 .left)
+geometry-of-requires : tie.Need-geometry-of-requires
+geometry-of-requires c κs = fit-inside _ _ _ _ _ _ _ _ (sym (c .before .fit-refusal .ensures) ∙ c .if1 .left)
 
 -- luma's list of both, apart
 abbrev parted : tie.After-all-zero → tie.After-apart
@@ -31,7 +31,7 @@ returns : tie.Need-returns
 returns c = c .unfitted .ensures ∙ refused _ _ _ _ _ _ _ _ _ (c .before .before .fit-refusal .ensures) (c .before .if1 .taken)
 
 luma-fit-requires : tie.Need-luma-fit-requires
-luma-fit-requires c κs = let g = granted (c .before .before) in (rw (c .before .geometry .ensures) (g .0 .luma), g .1)
+luma-fit-requires c κs = let g = granted (c .before .before) in (rw (c .before .geometry-of .ensures) (g .0 .luma), g .1)
 
 all-zero-requires : tie.Need-all-zero-requires
 all-zero-requires c κs =
@@ -44,13 +44,13 @@ returns-2 c =
     let l = solved t in
     let k = l .before .before .before in
     c .unfitted2 .ensures
-    ∙ none _ _ _ _ _ _ _ _ _ (k .before .fit-refusal .ensures) (k .if1 .left) _ (l .before .before .geometry .ensures) _ (l .before .neighbour-count .ensures) _ (l .luma-fit .ensures) _ _ (parted t .apart .ensures) _ (t .all-zero .ensures) (c .before .if2 .taken)
+    ∙ none _ _ _ _ _ _ _ _ _ (k .before .fit-refusal .ensures) (k .if1 .left) _ (l .before .before .geometry-of .ensures) _ (l .before .neighbour-count .ensures) _ (l .luma-fit .ensures) _ _ (parted t .apart .ensures) _ (t .all-zero .ensures) (c .before .if2 .taken)
 
 chroma-fit-requires : tie.Need-chroma-fit-requires
 chroma-fit-requires c κs =
     let l = solved (c .before) in
     let g = granted (l .before .before .before) in
-    (rw (l .before .before .geometry .ensures) (g .0), g .1)
+    (rw (l .before .before .geometry-of .ensures) (g .0), g .1)
 
 returns-3 : tie.Need-returns-3
 returns-3 c =
@@ -60,7 +60,7 @@ returns-3 c =
     let t = h .before .before in
     let l = solved t in
     let k = l .before .before .before in
-    some _ _ _ _ _ _ _ _ _ (k .before .fit-refusal .ensures) (k .if1 .left) _ (l .before .before .geometry .ensures) _ (l .before .neighbour-count .ensures) _ (l .luma-fit .ensures) _ _ (parted t .apart .ensures) _ (t .all-zero .ensures) (h .before .if2 .left)
+    some _ _ _ _ _ _ _ _ _ (k .before .fit-refusal .ensures) (k .if1 .left) _ (l .before .before .geometry-of .ensures) _ (l .before .neighbour-count .ensures) _ (l .luma-fit .ensures) _ _ (parted t .apart .ensures) _ (t .all-zero .ensures) (h .before .if2 .left)
     _ _ (h .chroma-fit .ensures .0) (h .chroma-fit .ensures .1) _ _ (b .apart2 .ensures) _ _ (r .apart3 .ensures)
 
 pub fit-ar-lag-spec : {M : Type 1} → statement M
@@ -70,7 +70,7 @@ fit-ar-lag-spec =
     (λ c κs. search needs)
     (λ c κs. search needs)
     returns
-    geometry-requires
+    geometry-of-requires
     (λ c κs. granted (c .before) .1)
     luma-fit-requires
     (λ c. search needs)

@@ -18,19 +18,19 @@ returns c = c .refused-gate .ensures ∙ luma-refused _ _ _ _ _ (c .before .befo
 passed : (c : tie.Else1) → let A = c .before .before .before .before .before .before .args in gateRefusal (A .s) Y (A .src0 .now) (A .den0 .now) (A .src1 .now) (A .den1 .now) ≡ 0
 passed c = sym (c .before .gate-refusal .ensures) ∙ c .if1 .left
 
-view-requires : tie.Need-view-requires
-view-requires c κs = gate-inside _ Y _ _ _ _ (passed c)
+view-of-requires : tie.Need-view-of-requires
+view-of-requires c κs = gate-inside _ Y _ _ _ _ (passed c)
 
 luma-finding-requires : tie.Need-luma-finding-requires
 luma-finding-requires c κs =
     let e = passed (c .before .before) in
     let g = gate-call _ Y _ _ _ _ e in
-    rw (c .before .view .ensures) (first-seen _ Y _ _ _ _ e, second-seen _ Y _ _ _ _ e, g .shape .across .some, omega (arith, g .shape .depth .most))
+    rw (c .before .view-of .ensures) (first-seen _ Y _ _ _ _ e, second-seen _ Y _ _ _ _ e, g .shape .across .some, omega (arith, g .shape .depth .most))
 
 returns-2 : tie.Need-returns-2
 returns-2 c =
     let k = c .before .before .before .before in
-    c .found-gate .ensures ∙ ap foundGate (c .before .luma-finding .ensures) ∙ luma-answered _ _ _ _ _ (k .before .gate-refusal .ensures) (k .if1 .left) (c .before .before .before .view .ensures)
+    c .found-gate .ensures ∙ ap foundGate (c .before .luma-finding .ensures) ∙ luma-answered _ _ _ _ _ (k .before .gate-refusal .ensures) (k .if1 .left) (c .before .before .before .view-of .ensures)
 
 pub film-grain-probe-spec : {M : Type 1} → statement M
 film-grain-probe-spec =
@@ -39,7 +39,7 @@ film-grain-probe-spec =
     (λ c κs. search needs)
     (λ c κs. search needs)
     returns
-    view-requires
+    view-of-requires
     (λ c. gate-call _ Y _ _ _ _ (passed (c .before .before)) .shape .depth .least)
     (λ c. search needs)
     luma-finding-requires

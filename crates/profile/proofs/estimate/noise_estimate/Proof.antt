@@ -19,22 +19,22 @@ in-frame c = frame-inside _ _ _ _ _ _ _ (sym (c .before .frame-refusal .ensures)
 luma-profile-requires : tie.Need-luma-profile-requires
 luma-profile-requires c κs =
     let A = c .before .before .before .before .before .before .before .before .before .before .args in
-    estimate-seen (A .s) (A .y .now) (A .cb .now) (A .cr .now) (A .y-den .now) (A .cb-den .now) (A .cr-den .now) (c .before .before .before .frame-refusal .ensures) (c .before .before .if1 .left) (c .view2 .ensures) (c .before .view .ensures) .0
+    estimate-seen (A .s) (A .y .now) (A .cb .now) (A .cr .now) (A .y-den .now) (A .cb-den .now) (A .cr-den .now) (c .before .before .before .frame-refusal .ensures) (c .before .before .if1 .left) (c .view-of2 .ensures) (c .before .view-of .ensures) .0
 
 chroma-profile-requires : tie.Need-chroma-profile-requires
 chroma-profile-requires c κs =
     let A = c .before .before .before .before .before .before .before .before .before .before .before .args in
-    estimate-seen (A .s) (A .y .now) (A .cb .now) (A .cr .now) (A .y-den .now) (A .cb-den .now) (A .cr-den .now) (c .before .before .before .before .frame-refusal .ensures) (c .before .before .before .if1 .left) (c .before .view2 .ensures) (c .before .before .view .ensures) .1
+    estimate-seen (A .s) (A .y .now) (A .cb .now) (A .cr .now) (A .y-den .now) (A .cb-den .now) (A .cr-den .now) (c .before .before .before .before .frame-refusal .ensures) (c .before .before .before .if1 .left) (c .before .view-of2 .ensures) (c .before .before .view-of .ensures) .1
 
 chroma-profile-requires-2 : tie.Need-chroma-profile-requires-2
 chroma-profile-requires-2 c κs =
     let A = c .before .before .before .before .before .before .before .before .before .before .before .before .args in
-    estimate-seen (A .s) (A .y .now) (A .cb .now) (A .cr .now) (A .y-den .now) (A .cb-den .now) (A .cr-den .now) (c .before .before .before .before .before .frame-refusal .ensures) (c .before .before .before .before .if1 .left) (c .before .before .view2 .ensures) (c .before .before .before .view .ensures) .2
+    estimate-seen (A .s) (A .y .now) (A .cb .now) (A .cr .now) (A .y-den .now) (A .cb-den .now) (A .cr-den .now) (c .before .before .before .before .before .frame-refusal .ensures) (c .before .before .before .before .if1 .left) (c .before .before .view-of2 .ensures) (c .before .before .before .view-of .ensures) .2
 
 returns-2 : tie.Need-returns-2
 returns-2 c =
     let A = c .before .before .before .before .before .before .before .before .before .before .before .before .before .args in
-    estimate-accepted (A .s) (A .y .now) (A .cb .now) (A .cr .now) (A .y-den .now) (A .cb-den .now) (A .cr-den .now) (c .before .before .before .before .before .before .frame-refusal .ensures) (c .before .before .before .before .before .if1 .left) (c .before .before .before .view2 .ensures) (c .before .before .before .before .view .ensures)
+    estimate-accepted (A .s) (A .y .now) (A .cb .now) (A .cr .now) (A .y-den .now) (A .cb-den .now) (A .cr-den .now) (c .before .before .before .before .before .before .frame-refusal .ensures) (c .before .before .before .before .before .if1 .left) (c .before .before .before .view-of2 .ensures) (c .before .before .before .before .view-of .ensures)
     (c .before .before .luma-profile .ensures) (c .before .chroma-profile .ensures) (c .chroma-profile2 .ensures)
 
 pub noise-estimate-spec : {M : Type 1} → statement M

@@ -1,22 +1,22 @@
--- `frame::Shape::view` meets its contract: the rectangle's part of the plane, whose start fits its type. Assumes nothing.
+-- `frame::active::view_of` meets its contract: the rectangle's part of the plane, whose start fits its type. Assumes nothing.
 use Prim.Native.Nat.{ℕ, _+_, _*_, _≤_}
 use native.Mathlib.Omega.{arith}
 use borrow.Author.Needs.{needs}
 use Rattle.laws.specs.Limits.{sideLimit}
 use Rattle.frame.specs.Planes.{widthOf, activeOf}
 use Rattle.frame.proofs.Size.{area-fits, start-fits, columns-le, rows-le}
-use Rattle.frame.proofs.Shape.view.Statement.{statement}
-use Rattle.frame.proofs.Shape.view.Tie as tie
+use Rattle.frame.proofs.active.view_of.Statement.{statement}
+use Rattle.frame.proofs.active.view_of.Tie as tie
 
 before : (start size : ℕ) {side : ℕ} → start + size ≤ side → side ≤ sideLimit → start ≤ sideLimit
 before start size a b = omega arith
 
 -- the plane's columns, and the rectangle's first row and column, are within the limit
-limits : (c : tie.Start) → let s = c .args .self in let k = c .args .component in
+limits : (c : tie.Start) → let s = c .args .s in let k = c .args .component in
     (widthOf s k ≤ sideLimit) × (activeOf s k .top ≤ sideLimit) × (activeOf s k .left ≤ sideLimit)
 limits c =
-    let format = c .args .self .format in
-    let a = c .args .self .active in
+    let format = c .args .s .format in
+    let a = c .args .s .active in
     let k = c .args .component in
     (columns-le format k (c .pre .wide), rows-le format k (before (a .top) (a .height) (c .pre .down) (c .pre .high)), columns-le format k (before (a .left) (a .width) (c .pre .across) (c .pre .wide)))
 
@@ -41,8 +41,8 @@ returns c =
       height = c .rows-of2 .ensures i;
     }
 
-pub view-spec : {M : Type 1} → statement M
-view-spec =
+pub view-of-spec : {M : Type 1} → statement M
+view-of-spec =
     tie.close
     (tie.spec
     (λ c κs. search needs)
