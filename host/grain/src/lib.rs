@@ -46,7 +46,7 @@ pub mod sys;
 
 pub use denoise::{denoise_frame, denoise_plane};
 pub use fit::{ArFit, ChromaCorr, ar_positions, fit_ar_lag, fit_chroma_corr, solve_normal};
-pub use frame::{Chroma, Format, Frame, SIDE_LIMIT, Shape};
+pub use frame::{Chroma, Format, Frame, Rectangle, SIDE_LIMIT, Shape};
 pub use gate::{chroma_noise_gate, film_grain_probe, lag_h_rho};
 pub use header::{FilmGrainParams, FrameType, MAX_HEADER_BYTES, write_film_grain_params};
 pub use pair::{Pair, ShapeMismatch, TwoFrames};
