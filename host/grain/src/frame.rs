@@ -64,7 +64,7 @@ pub struct Rectangle {
 }
 
 impl Rectangle {
-    /// A frame so large, as a whole.
+    /// All of a frame of this size.
     pub const fn whole(width: usize, height: usize) -> Self {
         Self {
             left: 0,
@@ -130,6 +130,24 @@ impl Shape {
     }
 
     /// The same frame with another active rectangle.
+    ///
+    /// ```
+    /// use grain::{Format, Frame, Pair, Rectangle, Refusal, Shape, noise_estimate};
+    ///
+    /// // Two rows of picture between black bars.
+    /// let shape = Shape::new(3, 4, 8, Format::Monochrome);
+    /// let y = [0, 0, 0, 33, 33, 33, 33, 33, 33, 0, 0, 0];
+    /// let clean = [0, 0, 0, 32, 32, 32, 32, 32, 32, 0, 0, 0];
+    /// let profile = |top, height| {
+    ///     let active = Rectangle { left: 0, top, width: 3, height };
+    ///     let frame = |plane| Frame::new(shape.with_active(active), plane, &[], &[]);
+    ///     noise_estimate(&Pair::new(frame(&y), frame(&clean)).expect("one shape"))
+    /// };
+    /// assert_eq!(profile(0, 4)?.luma.sigma16, 11);
+    /// assert_eq!(profile(1, 2)?.luma.sigma16, 16);
+    /// assert_eq!(profile(1, 4), Err(Refusal::ActiveRectangle));
+    /// # Ok::<(), Refusal>(())
+    /// ```
     pub const fn with_active(self, active: Rectangle) -> Self {
         Self { active, ..self }
     }
