@@ -49,7 +49,7 @@ fn parts() {
 
 /// Drawn cases of calls on a frame, their planes left as they were drawn.
 fn cases() -> impl Iterator<Item = Case> {
-    let drawn = (0..6_000).map(|index| draw::case(9, index));
+    let drawn = (0..6_000).map(|index| draw::case(5, index));
     let framed = drawn.filter(|case| case.call.asks.frame);
     framed.map(|case| Case {
         faults: Vec::new(),
@@ -294,7 +294,7 @@ fn differs(case: &Case) -> bool {
 
 #[test]
 fn a_wrong_library_is_found() {
-    let cases: Vec<Case> = (0..30_000).map(|index| draw::case(9, index)).collect();
+    let cases: Vec<Case> = (0..30_000).map(|index| draw::case(5, index)).collect();
     for (of, name, raw) in WRONG {
         let call = wrong(row(of), name, raw);
         let own = cases.iter().filter(|case| case.call.name == of);
