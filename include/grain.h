@@ -73,8 +73,9 @@ typedef struct grain_rectangle {
  * monochrome; (width + 1) / 2 wide in 4:2:0 and 4:2:2; (height + 1) / 2 high in 4:2:0; else as luma.
  *
  * Outside the active rectangle there is no picture: black bars have no grain. The profile, correlation, fit and gate of a
- * frame are those of the frame that the rectangle cuts out of every plane, and use no sample outside it; what is lent is
- * the whole planes, and the questions are about them. A frame is denoised as a whole. */
+ * frame are those of the frame that the rectangle cuts out, and use no sample outside it. Of chroma it cuts out as much as
+ * a frame of its size has, from left / 2 where the format halves the width and top / 2 where it halves the height. What
+ * is lent is the whole planes, and the questions are about them; a frame is denoised as a whole. */
 typedef struct grain_shape {
     size_t width;
     size_t height;

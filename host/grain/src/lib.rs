@@ -8,6 +8,8 @@
 //! Frames that are compared, a frame and its denoised copy or two such pairs, travel as one value ([`Pair`],
 //! [`TwoFrames`]), which can be made of frames of one shape only.
 //!
+//! A frame with black bars has its picture in a part of it, its active rectangle ([`Shape::with_active`]).
+//!
 //! ```
 //! use grain::{Format, Frame, Pair, Refusal, Shape};
 //!
