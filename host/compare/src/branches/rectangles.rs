@@ -37,8 +37,8 @@ pub const RECTANGLES: &[&str] = &[
     rules::ODD_COLUMN_420.name,
     rules::ODD_ROW_420.name,
     rules::ODD_COLUMN_422.name,
-    "12, where 5 would be refused",
-    "4, where 12 would be refused",
+    "12, though 5 would fail as well",
+    "4, though 12 would fail as well",
     "6, for samples outside the rectangle alone",
 ];
 
@@ -105,22 +105,17 @@ fn accepted(input: &Input) -> Taken {
 /// What a call's refusal has to do with its rectangle.
 fn refusal(call: &Call, input: &Input, number: u32) -> Taken {
     match number {
-        4 => those([("4, where 12 would be refused", rules::broken(input))]),
+        4 => those([("4, though 12 would fail as well", rules::broken(input))]),
         6 => {
             let low = |part: Input| questions::passed(6, call, &part);
             let outside = rectangles::cut_out(input).is_some_and(low);
             those([("6, for samples outside the rectangle alone", outside)])
         }
         12 => {
-            let mut taken = those([(
-                "12, where 5 would be refused",
-                !questions::passed(5, call, input),
-            )]);
-            taken.extend(
-                rules::alone(input)
-                    .into_iter()
-                    .flat_map(|c| causes(c, input)),
-            );
+            let alone = rules::alone(input);
+            let mut taken = alone.map_or(Taken::new(), |rule| causes(rule, input));
+            let short = !questions::passed(5, call, input);
+            taken.extend(those([("12, though 5 would fail as well", short)]));
             taken
         }
         _ => Taken::new(),
