@@ -22,7 +22,7 @@
 #include <stdint.h>
 
 #define GRAIN_VERSION_MAJOR 0
-#define GRAIN_VERSION_MINOR 4
+#define GRAIN_VERSION_MINOR 5
 #define GRAIN_VERSION_PATCH 0
 
 /* The largest width and height. */
@@ -42,6 +42,9 @@ enum grain_refusal {
     GRAIN_EMPTY_FRAME = 2,        /* In a frame call, are both at least 1? */
     GRAIN_DEPTH = 3,              /* Is the depth 8, 10 or 12? */
     GRAIN_FORMAT = 4,             /* Is the format 0 to 3? */
+    GRAIN_ACTIVE_RECTANGLE = 12,  /* In a frame call, does the active rectangle hold a sample, lie in the frame, and start
+                                   * at an even place in a direction that the format halves (both in 4:2:0, across in
+                                   * 4:2:2, none in monochrome and 4:4:4)? */
     GRAIN_PLANE_LENGTH = 5,       /* Has every lent plane exactly its number of samples? */
     GRAIN_SAMPLE_ABOVE_DEPTH = 6, /* In a call with a depth, is every source and denoised sample below 2^depth? */
     GRAIN_LAG_ABOVE_3 = 7,        /* Is the lag of a fit at most 3? */
@@ -58,14 +61,43 @@ enum grain_format {
     GRAIN_YUV444 = 3
 };
 
-/* A frame's size in luma samples, its depth in bits and its grain_format. Chroma is 0x0 in monochrome; (width + 1) / 2
- * wide in 4:2:0 and 4:2:2; (height + 1) / 2 high in 4:2:0; else as luma. */
+/* A part of a frame, in luma samples. */
+typedef struct grain_rectangle {
+    size_t left;
+    size_t top;
+    size_t width;
+    size_t height;
+} grain_rectangle;
+
+/* A frame's size in luma samples, its depth in bits, its grain_format and its active rectangle. Chroma is 0x0 in
+ * monochrome; (width + 1) / 2 wide in 4:2:0 and 4:2:2; (height + 1) / 2 high in 4:2:0; else as luma.
+ *
+ * Outside the active rectangle there is no picture: black bars have no grain. The profile, correlation, fit and gate of a
+ * frame are those of the frame that the rectangle cuts out, and use no sample outside it. Of chroma it cuts out as much as
+ * a frame of its size has, from left / 2 where the format halves the width and top / 2 where it halves the height. What
+ * is lent is the whole planes, and the questions are about them; a frame is denoised as a whole. */
 typedef struct grain_shape {
     size_t width;
     size_t height;
     uint8_t depth;
     uint8_t format;
+    grain_rectangle active;
 } grain_shape;
+
+/* A frame that is active as a whole. */
+static inline grain_shape grain_whole_frame(size_t width, size_t height, uint8_t depth, uint8_t format)
+{
+    grain_shape s;
+    s.width = width;
+    s.height = height;
+    s.depth = depth;
+    s.format = format;
+    s.active.left = 0;
+    s.active.top = 0;
+    s.active.width = width;
+    s.active.height = height;
+    return s;
+}
 
 /* ---- Denoise ---- */
 
@@ -75,7 +107,7 @@ uint32_t grain_denoise_plane(const uint16_t *src, size_t src_len, uint16_t *dst,
                              size_t width, size_t height);
 
 /* Each plane of a frame as grain_denoise_plane has it, at its own size; the results go to the planes to_y, to_cb, to_cr.
- * Asked 1, 2, 3, 4, 5, 6. */
+ * Asked 1, 2, 3, 4, 12, 5, 6. */
 uint32_t grain_denoise_frame(grain_shape s, const uint16_t *y, size_t y_len, const uint16_t *cb, size_t cb_len,
                              const uint16_t *cr, size_t cr_len, uint16_t *to_y, size_t to_y_len,
                              uint16_t *to_cb, size_t to_cb_len, uint16_t *to_cr, size_t to_cr_len);
@@ -117,7 +149,7 @@ typedef struct grain_estimate {
 
 /* Of each plane and of each bin: its sigma16, count and sum of d^2. A bin's sigma16 is the plane's where its count is
  * below max(n / 100, 64) in luma, max(n / 100, 32) in chroma, n the plane's samples.
- * Asked 1, 2, 3, 4, 5, 6. */
+ * Asked 1, 2, 3, 4, 12, 5, 6. */
 grain_estimate grain_noise_estimate(grain_shape s, const uint16_t *y, size_t y_len, const uint16_t *cb, size_t cb_len,
                                     const uint16_t *cr, size_t cr_len, const uint16_t *y_den, size_t y_den_len,
                                     const uint16_t *cb_den, size_t cb_den_len, const uint16_t *cr_den, size_t cr_den_len);
@@ -142,13 +174,13 @@ typedef struct grain_gate {
 
 /* Y of two frames of one shape and of their denoised copies: sigma16 >= 16, |rho at lag 1| < 0.75, no energy 0, and
  * |cross / root(e0 * e1)| < 0.4
- * Asked 1, 2, 3, 4, 5, 6. */
+ * Asked 1, 2, 3, 4, 12, 5, 6. */
 grain_gate grain_film_grain_probe(grain_shape s, const uint16_t *src0, size_t src0_len, const uint16_t *den0, size_t den0_len,
                                   const uint16_t *src1, size_t src1_len, const uint16_t *den1, size_t den1_len);
 
 /* One chroma component of two frames of one shape and of their denoised copies, with its sigma16: the tests of
  * grain_film_grain_probe, but sigma16 >= 8 and no empty plane
- * Asked 1, 2, 3, 4, 5, 6. */
+ * Asked 1, 2, 3, 4, 12, 5, 6. */
 grain_gate grain_chroma_noise_gate(grain_shape s, const uint16_t *src0, size_t src0_len, const uint16_t *den0, size_t den0_len,
                                    const uint16_t *src1, size_t src1_len, const uint16_t *den1, size_t den1_len,
                                    uint64_t sigma16);
@@ -173,7 +205,7 @@ typedef struct grain_chroma_corr {
 
 /* Of Cb and of Cr: quant_ar(sum of a * n / sum of a^2), a the average of luma's noise at the chroma place; 0 where the
  * latter is at most 1e-9
- * Asked 1, 2, 3, 4, 5, 6. */
+ * Asked 1, 2, 3, 4, 12, 5, 6. */
 grain_chroma_corr grain_fit_chroma_corr(grain_shape s, const uint16_t *y, size_t y_len,
                                         const uint16_t *cb, size_t cb_len, const uint16_t *cr, size_t cr_len,
                                         const uint16_t *y_den, size_t y_den_len, const uint16_t *cb_den, size_t cb_den_len,
@@ -238,7 +270,7 @@ typedef struct grain_fit {
 
 /* quant_ar of the least squares of a sample's noise by its neighbours' noises, and for chroma by luma's average as well;
  * chroma is 0 in monochrome, in too small a plane and without a solution
- * Asked 1, 2, 3, 4, 5, 6, 7. */
+ * Asked 1, 2, 3, 4, 12, 5, 6, 7. */
 grain_fit grain_fit_ar_lag(grain_shape s, const uint16_t *y, size_t y_len, const uint16_t *cb, size_t cb_len,
                            const uint16_t *cr, size_t cr_len, const uint16_t *y_den, size_t y_den_len,
                            const uint16_t *cb_den, size_t cb_den_len, const uint16_t *cr_den, size_t cr_den_len, size_t lag);

@@ -47,26 +47,26 @@ static void denoise_frame(void)
     fill(cb_den, 4, 501);
     fill(cr_den, 4, 502);
 #define FRAME LENT(y), LENT(cb), LENT(cr), LENT(y_den), LENT(cb_den), LENT(cr_den)
-    SAME(grain_denoise_frame(shape(4097, 3, 8, 1), FRAME), GRAIN_SIDE_ABOVE_4096);
-    SAME(grain_denoise_frame(shape(0, 3, 8, 1), FRAME), GRAIN_EMPTY_FRAME);
-    SAME(grain_denoise_frame(shape(3, 3, 9, 1), FRAME), GRAIN_DEPTH);
-    SAME(grain_denoise_frame(shape(3, 3, 8, 4), FRAME), GRAIN_FORMAT);
-    SAME(grain_denoise_frame(shape(3, 3, 8, 2), FRAME), GRAIN_PLANE_LENGTH);
-    SAME(grain_denoise_frame(shape(3, 3, 8, 1), LENT(y), LENT(cb), LENT(cr), LENT(y_den), LENT(cb_den), cr_den, 3),
+    SAME(grain_denoise_frame(grain_whole_frame(4097, 3, 8, 1), FRAME), GRAIN_SIDE_ABOVE_4096);
+    SAME(grain_denoise_frame(grain_whole_frame(0, 3, 8, 1), FRAME), GRAIN_EMPTY_FRAME);
+    SAME(grain_denoise_frame(grain_whole_frame(3, 3, 9, 1), FRAME), GRAIN_DEPTH);
+    SAME(grain_denoise_frame(grain_whole_frame(3, 3, 8, 4), FRAME), GRAIN_FORMAT);
+    SAME(grain_denoise_frame(grain_whole_frame(3, 3, 8, 2), FRAME), GRAIN_PLANE_LENGTH);
+    SAME(grain_denoise_frame(grain_whole_frame(3, 3, 8, 1), LENT(y), LENT(cb), LENT(cr), LENT(y_den), LENT(cb_den), cr_den, 3),
          GRAIN_PLANE_LENGTH);
     cr[3] = 256;
-    SAME(grain_denoise_frame(shape(3, 3, 8, 1), FRAME), GRAIN_SAMPLE_ABOVE_DEPTH);
+    SAME(grain_denoise_frame(grain_whole_frame(3, 3, 8, 1), FRAME), GRAIN_SAMPLE_ABOVE_DEPTH);
     SAME_ALL(y_den, 500, 500, 500, 500, 500, 500, 500, 500, 500);
     SAME_ALL(cb_den, 501, 501, 501, 501);
     SAME_ALL(cr_den, 502, 502, 502, 502);
     cr[3] = 16;
-    SAME(grain_denoise_frame(shape(3, 3, 8, 1), FRAME), GRAIN_ACCEPTED);
+    SAME(grain_denoise_frame(grain_whole_frame(3, 3, 8, 1), FRAME), GRAIN_ACCEPTED);
     SAME_ALL(y_den, 1, 2, 1, 2, 4, 2, 1, 2, 1);
     SAME_ALL(cb_den, 4, 12, 4, 12);
     SAME_ALL(cr_den, 4, 4, 12, 12);
 #undef FRAME
     fill(y_den, 9, 500);
-    SAME(grain_denoise_frame(shape(3, 3, 8, 0), LENT(y), NONE, NONE, LENT(y_den), NONE, NONE), GRAIN_ACCEPTED);
+    SAME(grain_denoise_frame(grain_whole_frame(3, 3, 8, 0), LENT(y), NONE, NONE, LENT(y_den), NONE, NONE), GRAIN_ACCEPTED);
     SAME_ALL(y_den, 1, 2, 1, 2, 4, 2, 1, 2, 1);
 }
 
@@ -117,7 +117,7 @@ static uint64_t bin1(size_t width, size_t height, size_t few)
     fill(y_den, n, 9);
     fill(y, few, 33);
     fill(y_den, few, 32);
-    grain_estimate a = grain_noise_estimate(shape(width, height, 8, 0), y, n, NONE, NONE, y_den, n, NONE, NONE);
+    grain_estimate a = grain_noise_estimate(grain_whole_frame(width, height, 8, 0), y, n, NONE, NONE, y_den, n, NONE, NONE);
     SAME(a.refusal, GRAIN_ACCEPTED);
     SAME(a.luma.sigma16, 2);
     SAME(a.luma.bin_count[0], n - few);
@@ -133,7 +133,7 @@ static void noise_estimate(void)
     uint16_t y[4] = {31, 32, 31, 255}, cb[4] = {63, 64, 63, 255}, cr[4] = {0, 0, 64, 64};
     uint16_t y_den[4] = {30, 32, 31, 255}, cb_den[4] = {63, 62, 63, 255}, cr_den[4] = {0, 0, 64, 61};
 #define FRAME LENT(y), LENT(cb), LENT(cr), LENT(y_den), LENT(cb_den), LENT(cr_den)
-    grain_estimate a = grain_noise_estimate(shape(2, 2, 8, 3), FRAME);
+    grain_estimate a = grain_noise_estimate(grain_whole_frame(2, 2, 8, 3), FRAME);
     SAME(a.refusal, GRAIN_ACCEPTED);
     SAME(a.luma.sigma16, 8);
     SAME_ALL(a.luma.bin_sigma16, 8, 8, 8, 8, 8, 8, 8, 8);
@@ -149,7 +149,7 @@ static void noise_estimate(void)
     SAME_ALL(a.cr.bin_squares, 0, 9, 0, 0);
 
     uint16_t ten[1] = {1023};
-    a = grain_noise_estimate(shape(1, 1, 10, 0), LENT(ten), NONE, NONE, LENT(ten), NONE, NONE);
+    a = grain_noise_estimate(grain_whole_frame(1, 1, 10, 0), LENT(ten), NONE, NONE, LENT(ten), NONE, NONE);
     SAME(a.refusal, GRAIN_ACCEPTED);
     SAME(a.luma.bin_count[7], 1);
 
@@ -158,13 +158,13 @@ static void noise_estimate(void)
     SAME(bin1(100, 65, 65), 16);
     SAME(bin1(100, 65, 64), 2);
 
-    SAME(grain_noise_estimate(shape(2, 4097, 8, 3), FRAME).refusal, GRAIN_SIDE_ABOVE_4096);
-    SAME(grain_noise_estimate(shape(2, 0, 8, 3), FRAME).refusal, GRAIN_EMPTY_FRAME);
-    SAME(grain_noise_estimate(shape(2, 2, 0, 3), FRAME).refusal, GRAIN_DEPTH);
-    SAME(grain_noise_estimate(shape(2, 2, 8, 4), FRAME).refusal, GRAIN_FORMAT);
-    SAME(grain_noise_estimate(shape(2, 2, 8, 1), FRAME).refusal, GRAIN_PLANE_LENGTH);
+    SAME(grain_noise_estimate(grain_whole_frame(2, 4097, 8, 3), FRAME).refusal, GRAIN_SIDE_ABOVE_4096);
+    SAME(grain_noise_estimate(grain_whole_frame(2, 0, 8, 3), FRAME).refusal, GRAIN_EMPTY_FRAME);
+    SAME(grain_noise_estimate(grain_whole_frame(2, 2, 0, 3), FRAME).refusal, GRAIN_DEPTH);
+    SAME(grain_noise_estimate(grain_whole_frame(2, 2, 8, 4), FRAME).refusal, GRAIN_FORMAT);
+    SAME(grain_noise_estimate(grain_whole_frame(2, 2, 8, 1), FRAME).refusal, GRAIN_PLANE_LENGTH);
     cr_den[0] = 256;
-    a = grain_noise_estimate(shape(2, 2, 8, 3), FRAME);
+    a = grain_noise_estimate(grain_whole_frame(2, 2, 8, 3), FRAME);
     SAME(a.refusal, GRAIN_SAMPLE_ABOVE_DEPTH);
     ZERO(a.luma);
     ZERO(a.cb);
@@ -214,7 +214,7 @@ static bool luma(const int *first, const int *second, size_t n)
         src1[i] = (uint16_t)(100 + second[i]);
         den0[i] = den1[i] = 100;
     }
-    grain_gate a = grain_film_grain_probe(shape(n, 1, 8, 0), src0, n, den0, n, src1, n, den1, n);
+    grain_gate a = grain_film_grain_probe(grain_whole_frame(n, 1, 8, 0), src0, n, den0, n, src1, n, den1, n);
     SAME(a.refusal, GRAIN_ACCEPTED);
     return a.yes;
 }
@@ -224,7 +224,7 @@ static bool chroma(const int *first, const int *second, size_t n, uint64_t sigma
     uint16_t src0[10], den0[10], src1[10], den1[10];
     samples(first, n, src0, den0);
     samples(second, n, src1, den1);
-    grain_gate a = grain_chroma_noise_gate(shape(2 * n, 1, 10, 1), src0, n, den0, n, src1, n, den1, n, sigma);
+    grain_gate a = grain_chroma_noise_gate(grain_whole_frame(2 * n, 1, 10, 1), src0, n, den0, n, src1, n, den1, n, sigma);
     SAME(a.refusal, GRAIN_ACCEPTED);
     return a.yes;
 }
@@ -249,24 +249,24 @@ static void gates(void)
 
     uint16_t low[4] = {0}, high[4] = {256};
 #define FOUR LENT(low), LENT(low), LENT(low), LENT(high)
-    grain_gate g = grain_film_grain_probe(shape(4, 1, 8, 0), FOUR);
+    grain_gate g = grain_film_grain_probe(grain_whole_frame(4, 1, 8, 0), FOUR);
     SAME(g.refusal, GRAIN_SAMPLE_ABOVE_DEPTH);
     ZERO(g.yes);
-    SAME(grain_film_grain_probe(shape(4097, 1, 8, 0), FOUR).refusal, GRAIN_SIDE_ABOVE_4096);
-    SAME(grain_film_grain_probe(shape(4, 0, 8, 0), FOUR).refusal, GRAIN_EMPTY_FRAME);
-    SAME(grain_film_grain_probe(shape(4, 1, 7, 0), FOUR).refusal, GRAIN_DEPTH);
-    SAME(grain_film_grain_probe(shape(4, 1, 8, 9), FOUR).refusal, GRAIN_FORMAT);
-    SAME(grain_film_grain_probe(shape(3, 1, 8, 0), FOUR).refusal, GRAIN_PLANE_LENGTH);
-    g = grain_chroma_noise_gate(shape(4, 1, 8, 3), FOUR, 8);
+    SAME(grain_film_grain_probe(grain_whole_frame(4097, 1, 8, 0), FOUR).refusal, GRAIN_SIDE_ABOVE_4096);
+    SAME(grain_film_grain_probe(grain_whole_frame(4, 0, 8, 0), FOUR).refusal, GRAIN_EMPTY_FRAME);
+    SAME(grain_film_grain_probe(grain_whole_frame(4, 1, 7, 0), FOUR).refusal, GRAIN_DEPTH);
+    SAME(grain_film_grain_probe(grain_whole_frame(4, 1, 8, 9), FOUR).refusal, GRAIN_FORMAT);
+    SAME(grain_film_grain_probe(grain_whole_frame(3, 1, 8, 0), FOUR).refusal, GRAIN_PLANE_LENGTH);
+    g = grain_chroma_noise_gate(grain_whole_frame(4, 1, 8, 3), FOUR, 8);
     SAME(g.refusal, GRAIN_SAMPLE_ABOVE_DEPTH);
     ZERO(g.yes);
-    SAME(grain_chroma_noise_gate(shape(4, 4097, 8, 3), FOUR, 8).refusal, GRAIN_SIDE_ABOVE_4096);
-    SAME(grain_chroma_noise_gate(shape(0, 1, 8, 3), FOUR, 8).refusal, GRAIN_EMPTY_FRAME);
-    SAME(grain_chroma_noise_gate(shape(4, 1, 16, 3), FOUR, 8).refusal, GRAIN_DEPTH);
-    SAME(grain_chroma_noise_gate(shape(4, 1, 8, 4), FOUR, 8).refusal, GRAIN_FORMAT);
-    SAME(grain_chroma_noise_gate(shape(4, 1, 8, 1), FOUR, 8).refusal, GRAIN_PLANE_LENGTH);
+    SAME(grain_chroma_noise_gate(grain_whole_frame(4, 4097, 8, 3), FOUR, 8).refusal, GRAIN_SIDE_ABOVE_4096);
+    SAME(grain_chroma_noise_gate(grain_whole_frame(0, 1, 8, 3), FOUR, 8).refusal, GRAIN_EMPTY_FRAME);
+    SAME(grain_chroma_noise_gate(grain_whole_frame(4, 1, 16, 3), FOUR, 8).refusal, GRAIN_DEPTH);
+    SAME(grain_chroma_noise_gate(grain_whole_frame(4, 1, 8, 4), FOUR, 8).refusal, GRAIN_FORMAT);
+    SAME(grain_chroma_noise_gate(grain_whole_frame(4, 1, 8, 1), FOUR, 8).refusal, GRAIN_PLANE_LENGTH);
 #undef FOUR
-    g = grain_chroma_noise_gate(shape(4, 1, 8, 0), NONE, NONE, NONE, NONE, 8);
+    g = grain_chroma_noise_gate(grain_whole_frame(4, 1, 8, 0), NONE, NONE, NONE, NONE, 8);
     SAME(g.refusal, GRAIN_ACCEPTED);
     SAME(g.yes, false);
 }
@@ -275,7 +275,7 @@ static void fit_chroma_corr(void)
 {
     uint16_t y[3] = {0, 4, 8}, cb[2] = {1, 1}, cr[2] = {0, 0}, y_den[3] = {0}, cb_den[2] = {0}, cr_den[2] = {2, 2};
 #define FRAME LENT(y), LENT(cb), LENT(cr), LENT(y_den), LENT(cb_den), LENT(cr_den)
-    grain_chroma_corr a = grain_fit_chroma_corr(shape(3, 1, 8, 1), FRAME);
+    grain_chroma_corr a = grain_fit_chroma_corr(grain_whole_frame(3, 1, 8, 1), FRAME);
     SAME(a.refusal, GRAIN_ACCEPTED);
     SAME(a.cb, 9);
     SAME(a.cr, -19);
@@ -283,25 +283,25 @@ static void fit_chroma_corr(void)
     SAME(a.cr_mark, GRAIN_INSIDE);
     for (int i = 0; i < 2; i++)
         cb[i] = cr_den[i] = (uint16_t)(i == 0 ? 6 : 24); /* three times luma's averages, and as much below 0 */
-    a = grain_fit_chroma_corr(shape(3, 1, 8, 1), FRAME);
+    a = grain_fit_chroma_corr(grain_whole_frame(3, 1, 8, 1), FRAME);
     SAME(a.cb, 127);
     SAME(a.cr, -128);
     SAME(a.cb_mark, GRAIN_HELD_HIGH);
     SAME(a.cr_mark, GRAIN_HELD_LOW);
-    SAME(grain_fit_chroma_corr(shape(4097, 1, 8, 1), FRAME).refusal, GRAIN_SIDE_ABOVE_4096);
-    SAME(grain_fit_chroma_corr(shape(3, 0, 8, 1), FRAME).refusal, GRAIN_EMPTY_FRAME);
-    SAME(grain_fit_chroma_corr(shape(3, 1, 255, 1), FRAME).refusal, GRAIN_DEPTH);
-    SAME(grain_fit_chroma_corr(shape(3, 1, 8, 255), FRAME).refusal, GRAIN_FORMAT);
-    SAME(grain_fit_chroma_corr(shape(3, 1, 8, 3), FRAME).refusal, GRAIN_PLANE_LENGTH);
+    SAME(grain_fit_chroma_corr(grain_whole_frame(4097, 1, 8, 1), FRAME).refusal, GRAIN_SIDE_ABOVE_4096);
+    SAME(grain_fit_chroma_corr(grain_whole_frame(3, 0, 8, 1), FRAME).refusal, GRAIN_EMPTY_FRAME);
+    SAME(grain_fit_chroma_corr(grain_whole_frame(3, 1, 255, 1), FRAME).refusal, GRAIN_DEPTH);
+    SAME(grain_fit_chroma_corr(grain_whole_frame(3, 1, 8, 255), FRAME).refusal, GRAIN_FORMAT);
+    SAME(grain_fit_chroma_corr(grain_whole_frame(3, 1, 8, 3), FRAME).refusal, GRAIN_PLANE_LENGTH);
     cb_den[1] = 256;
-    a = grain_fit_chroma_corr(shape(3, 1, 8, 1), FRAME);
+    a = grain_fit_chroma_corr(grain_whole_frame(3, 1, 8, 1), FRAME);
     SAME(a.refusal, GRAIN_SAMPLE_ABOVE_DEPTH);
     ZERO(a.cb);
     ZERO(a.cr);
     ZERO(a.cb_mark);
     ZERO(a.cr_mark);
 #undef FRAME
-    a = grain_fit_chroma_corr(shape(3, 1, 8, 0), LENT(y), NONE, NONE, LENT(y_den), NONE, NONE);
+    a = grain_fit_chroma_corr(grain_whole_frame(3, 1, 8, 0), LENT(y), NONE, NONE, LENT(y_den), NONE, NONE);
     SAME(a.refusal, GRAIN_ACCEPTED);
     SAME(a.cb, 0);
     SAME(a.cr, 0);
@@ -427,7 +427,7 @@ static void fit_ar_lag(void)
     uint16_t src[3][H * W], den[3][H * W];
 #define FRAME LENT(src[0]), LENT(src[1]), LENT(src[2]), LENT(den[0]), LENT(den[1]), LENT(den[2])
     follow(1, src, den);
-    grain_fit a = grain_fit_ar_lag(shape(W, H, 12, 3), FRAME, 1);
+    grain_fit a = grain_fit_ar_lag(grain_whole_frame(W, H, 12, 3), FRAME, 1);
     SAME(a.refusal, GRAIN_ACCEPTED);
     SAME(a.found, true);
     SAME(a.count, 4);
@@ -438,7 +438,7 @@ static void fit_ar_lag(void)
     ZERO(a.cb_marks);
     ZERO(a.cr_marks);
     follow(3, src, den);
-    a = grain_fit_ar_lag(shape(W, H, 12, 3), FRAME, 1);
+    a = grain_fit_ar_lag(grain_whole_frame(W, H, 12, 3), FRAME, 1);
     SAME_ALL(a.luma, 127, 0, 0, 0);
     SAME_ALL(a.cb, 0, 0, 64, 0, -128);
     SAME_ALL(a.cr, 0, 0, 0, -64, 127);
@@ -446,13 +446,13 @@ static void fit_ar_lag(void)
     SAME_ALL(a.cb_marks, 0, 0, 0, 0, GRAIN_HELD_LOW, 0, 0, 0, 0, 0, 0, 0, 0, 0, 0, 0, 0, 0, 0, 0, 0, 0, 0, 0, 0);
     SAME_ALL(a.cr_marks, 0, 0, 0, 0, GRAIN_HELD_HIGH, 0, 0, 0, 0, 0, 0, 0, 0, 0, 0, 0, 0, 0, 0, 0, 0, 0, 0, 0, 0);
     follow(-3, src, den);
-    a = grain_fit_ar_lag(shape(W, H, 12, 3), FRAME, 1);
+    a = grain_fit_ar_lag(grain_whole_frame(W, H, 12, 3), FRAME, 1);
     SAME_ALL(a.luma, -128, 0, 0, 0);
     SAME_ALL(a.luma_marks, GRAIN_HELD_LOW, GRAIN_INSIDE, GRAIN_INSIDE, GRAIN_INSIDE);
     SAME(a.cb_marks[4], GRAIN_HELD_HIGH);
     SAME(a.cr_marks[4], GRAIN_HELD_LOW);
     follow(-2, src, den); /* -128 is inside, 128 is not */
-    a = grain_fit_ar_lag(shape(W, H, 12, 3), FRAME, 1);
+    a = grain_fit_ar_lag(grain_whole_frame(W, H, 12, 3), FRAME, 1);
     SAME(a.luma[0], -128);
     SAME(a.luma_marks[0], GRAIN_INSIDE);
     SAME(a.cb[4], 127);
@@ -460,20 +460,20 @@ static void fit_ar_lag(void)
     SAME(a.cr[4], -128);
     SAME(a.cr_marks[4], GRAIN_INSIDE);
 
-    a = grain_fit_ar_lag(shape(2, 2, 12, 0), src[0], 4, NONE, NONE, den[0], 4, NONE, NONE, 1);
+    a = grain_fit_ar_lag(grain_whole_frame(2, 2, 12, 0), src[0], 4, NONE, NONE, den[0], 4, NONE, NONE, 1);
     SAME(a.refusal, GRAIN_ACCEPTED);
     SAME(a.found, false);
     ZERO(a.luma_marks);
     ZERO(a.cb_marks);
     ZERO(a.cr_marks);
-    SAME(grain_fit_ar_lag(shape(W, H, 12, 3), FRAME, 0).found, false);
-    SAME(grain_fit_ar_lag(shape(W, 4097, 12, 3), FRAME, 1).refusal, GRAIN_SIDE_ABOVE_4096);
-    SAME(grain_fit_ar_lag(shape(W, 0, 12, 3), FRAME, 1).refusal, GRAIN_EMPTY_FRAME);
-    SAME(grain_fit_ar_lag(shape(W, H, 14, 3), FRAME, 1).refusal, GRAIN_DEPTH);
-    SAME(grain_fit_ar_lag(shape(W, H, 12, 4), FRAME, 1).refusal, GRAIN_FORMAT);
-    SAME(grain_fit_ar_lag(shape(W, H, 12, 1), FRAME, 1).refusal, GRAIN_PLANE_LENGTH);
-    SAME(grain_fit_ar_lag(shape(W, H, 8, 3), FRAME, 4).refusal, GRAIN_SAMPLE_ABOVE_DEPTH);
-    a = grain_fit_ar_lag(shape(W, H, 12, 3), FRAME, 4);
+    SAME(grain_fit_ar_lag(grain_whole_frame(W, H, 12, 3), FRAME, 0).found, false);
+    SAME(grain_fit_ar_lag(grain_whole_frame(W, 4097, 12, 3), FRAME, 1).refusal, GRAIN_SIDE_ABOVE_4096);
+    SAME(grain_fit_ar_lag(grain_whole_frame(W, 0, 12, 3), FRAME, 1).refusal, GRAIN_EMPTY_FRAME);
+    SAME(grain_fit_ar_lag(grain_whole_frame(W, H, 14, 3), FRAME, 1).refusal, GRAIN_DEPTH);
+    SAME(grain_fit_ar_lag(grain_whole_frame(W, H, 12, 4), FRAME, 1).refusal, GRAIN_FORMAT);
+    SAME(grain_fit_ar_lag(grain_whole_frame(W, H, 12, 1), FRAME, 1).refusal, GRAIN_PLANE_LENGTH);
+    SAME(grain_fit_ar_lag(grain_whole_frame(W, H, 8, 3), FRAME, 4).refusal, GRAIN_SAMPLE_ABOVE_DEPTH);
+    a = grain_fit_ar_lag(grain_whole_frame(W, H, 12, 3), FRAME, 4);
     SAME(a.refusal, GRAIN_LAG_ABOVE_3);
     ZERO(a.found);
     ZERO(a.count);

@@ -76,9 +76,11 @@ static inline void fill(uint16_t *plane, size_t n, uint16_t x)
         plane[i] = x;
 }
 
-static inline grain_shape shape(size_t width, size_t height, uint8_t depth, uint8_t format)
+/* The same frame with another active rectangle. */
+static inline grain_shape active(grain_shape s, grain_rectangle r)
 {
-    return (grain_shape){width, height, depth, format};
+    s.active = r;
+    return s;
 }
 
 static inline int ended(const char *name)

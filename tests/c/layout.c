@@ -4,11 +4,17 @@
 #define PLACED(type, field, at) _Static_assert(offsetof(type, field) == (at), #type "." #field)
 #define SIZED(type, size) _Static_assert(sizeof(type) == (size), #type)
 
+PLACED(grain_rectangle, left, 0);
+PLACED(grain_rectangle, top, 8);
+PLACED(grain_rectangle, width, 16);
+PLACED(grain_rectangle, height, 24);
+SIZED(grain_rectangle, 32);
 PLACED(grain_shape, width, 0);
 PLACED(grain_shape, height, 8);
 PLACED(grain_shape, depth, 16);
 PLACED(grain_shape, format, 17);
-SIZED(grain_shape, 24);
+PLACED(grain_shape, active, 24);
+SIZED(grain_shape, 56);
 PLACED(grain_sigma, sigma16, 8);
 SIZED(grain_sigma, 16);
 PLACED(grain_luma_profile, bin_sigma16, 8);

@@ -1,39 +1,12 @@
 /* Frames through the structs of include/grain_planes.h. Each call answers what it answers when every plane is lent by
  * itself, and touches nothing outside a plane: memory ends where a plane does, or begins there. */
-#include "check.h"
-#include "grain_planes.h"
-
-static uint16_t *plane(size_t n, bool first)
-{
-    return edge(n * sizeof(uint16_t), first);
-}
-
-/* Samples about this level, of 10 bits. */
-static grain_plane noisy(size_t n, bool first, int level, int amplitude)
-{
-    static uint32_t state = 1;
-    uint16_t *samples = plane(n, first);
-    for (size_t i = 0; i < n; i++) {
-        state = state * 1664525 + 1013904223;
-        samples[i] = (uint16_t)(level + (int)(state >> 16) % (2 * amplitude + 1) - amplitude);
-    }
-    return (grain_plane){samples, n};
-}
-
-static grain_planes frame(size_t luma, size_t chroma, bool first, int amplitude)
-{
-    return (grain_planes){noisy(luma, first, 300, amplitude), noisy(chroma, first, 500, 2 * amplitude),
-                          noisy(chroma, first, 700, 3 * amplitude)};
-}
+#include "frames.h"
 
 static grain_planes_out written(size_t luma, size_t chroma, bool first)
 {
     return (grain_planes_out){{plane(luma, first), luma}, {plane(chroma, first), chroma}, {plane(chroma, first), chroma}};
 }
 
-#define LEND(p) (p).samples, (p).len
-#define LEND_ALL(f) LEND((f).y), LEND((f).cb), LEND((f).cr)
-#define SAME_FIELD(a, b, field) compare(__LINE__, #a "." #field, &(a).field, &(b).field, sizeof((a).field))
 #define SAME_PLANE(a, b) compare(__LINE__, #a " = " #b, (a).samples, (b).samples, 2 * (a).len)
 
 static void calls(grain_shape s, size_t luma, size_t chroma, bool first)
@@ -99,17 +72,17 @@ static void monochrome(void)
     uint16_t y[2] = {0, 16}, to_y[2];
     grain_planes f = {{LENT(y)}, {NONE}, {NONE}};
     grain_planes_out to = {{LENT(to_y)}, {NONE}, {NONE}};
-    SAME(grain_denoise_frame_planes(shape(2, 1, 8, GRAIN_MONOCHROME), f, to), GRAIN_ACCEPTED);
+    SAME(grain_denoise_frame_planes(grain_whole_frame(2, 1, 8, GRAIN_MONOCHROME), f, to), GRAIN_ACCEPTED);
     SAME_ALL(to_y, 4, 12);
 }
 
 int main(void)
 {
     for (int first = 0; first < 2; first++) {
-        calls(shape(67, 33, 10, GRAIN_MONOCHROME), 67 * 33, 0, first);
-        calls(shape(67, 33, 10, GRAIN_YUV420), 67 * 33, 34 * 17, first);
-        calls(shape(66, 31, 10, GRAIN_YUV422), 66 * 31, 33 * 31, first);
-        calls(shape(64, 32, 10, GRAIN_YUV444), 64 * 32, 64 * 32, first);
+        calls(grain_whole_frame(67, 33, 10, GRAIN_MONOCHROME), 67 * 33, 0, first);
+        calls(grain_whole_frame(67, 33, 10, GRAIN_YUV420), 67 * 33, 34 * 17, first);
+        calls(grain_whole_frame(66, 31, 10, GRAIN_YUV422), 66 * 31, 33 * 31, first);
+        calls(grain_whole_frame(64, 32, 10, GRAIN_YUV444), 64 * 32, 64 * 32, first);
     }
     monochrome();
     return ended("planes.c");

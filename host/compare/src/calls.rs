@@ -82,7 +82,14 @@ impl Call {
     pub fn names(&self) -> impl Iterator<Item = &'static str> {
         let rules = self.rules.iter().copied().flatten();
         let branches = self.branches.all.iter().copied();
-        branches.chain(rules.map(|rule| rule.name))
+        let rectangles = branches::RECTANGLES.iter().filter(|_| self.asks.frame);
+        let others = rules.map(|rule| rule.name).chain(rectangles.copied());
+        branches.chain(others)
+    }
+
+    /// Whether the answer is that of the frame that the rectangle cuts out. A frame is denoised as a whole.
+    pub fn keeps_to_the_rectangle(&self) -> bool {
+        self.asks.frame && self.destinations == 0
     }
 }
 

@@ -2,6 +2,7 @@
 
 use crate::calls::{CALLS, Call};
 use crate::noise::Noise;
+use grain::Rectangle;
 
 /// What is wrong with one of the lent planes, counted in the order in which they are lent, destinations last.
 #[derive(Debug, Clone, Copy, PartialEq, Eq)]
@@ -20,6 +21,8 @@ pub struct Case {
     pub seed: u64,
     pub width: usize,
     pub height: usize,
+    /// None is the whole frame.
+    pub active: Option<Rectangle>,
     pub depth: u8,
     pub format: u8,
     pub noise: Noise,
@@ -29,7 +32,8 @@ pub struct Case {
 }
 
 /// How a case is written.
-pub const FORM: &str = "CALL:SEED:WIDTHxHEIGHT:DEPTH:FORMAT:NOISE:NUMBER:FAULTS";
+pub const FORM: &str =
+    "CALL:SEED:WIDTHxHEIGHT[@WIDTHxHEIGHT+LEFT+TOP]:DEPTH:FORMAT:NOISE:NUMBER:FAULTS";
 
 impl std::fmt::Display for Case {
     fn fmt(&self, f: &mut std::fmt::Formatter<'_>) -> std::fmt::Result {
@@ -42,9 +46,12 @@ impl std::fmt::Display for Case {
                 Fault::High(plane) => format!("high{plane}"),
             })
             .collect();
+        let active = self.active.map_or(String::new(), |r| {
+            format!("@{}x{}+{}+{}", r.width, r.height, r.left, r.top)
+        });
         write!(
             f,
-            "{}:{}:{}x{}:{}:{}:{}:{}:{}",
+            "{}:{}:{}x{}{active}:{}:{}:{}:{}:{}",
             self.call.name,
             self.seed,
             self.width,
@@ -70,13 +77,37 @@ impl std::str::FromStr for Case {
     }
 }
 
+/// Two numbers.
+fn size(text: &str) -> Option<(usize, usize)> {
+    let (width, height) = text.split_once('x')?;
+    Some((width.parse().ok()?, height.parse().ok()?))
+}
+
+fn rectangle(text: &str) -> Option<Rectangle> {
+    let parts: Vec<&str> = text.split('+').collect();
+    let [of, left, top] = parts[..] else {
+        return None;
+    };
+    let (width, height) = size(of)?;
+    Some(Rectangle {
+        left: left.parse().ok()?,
+        top: top.parse().ok()?,
+        width,
+        height,
+    })
+}
+
 fn parse(text: &str) -> Option<Case> {
     // From the end, since a call's name may have colons.
     let parts: Vec<&str> = text.rsplitn(8, ':').collect();
-    let [faults, number, noise, format, depth, size, seed, call] = parts[..] else {
+    let [faults, number, noise, format, depth, frame, seed, call] = parts[..] else {
         return None;
     };
-    let (width, height) = size.split_once('x')?;
+    let (frame, active) = match frame.split_once('@') {
+        Some((frame, active)) => (frame, Some(rectangle(active)?)),
+        None => (frame, None),
+    };
+    let (width, height) = size(frame)?;
     let fault = |word: &str| -> Option<Fault> {
         let (kind, plane) = word.split_at(word.find(|c: char| c.is_ascii_digit())?);
         let plane = plane.parse().ok()?;
@@ -90,8 +121,9 @@ fn parse(text: &str) -> Option<Case> {
     Some(Case {
         call: CALLS.iter().find(|c| c.name == call)?,
         seed: seed.parse().ok()?,
-        width: width.parse().ok()?,
-        height: height.parse().ok()?,
+        width,
+        height,
+        active,
         depth: depth.parse().ok()?,
         format: format.parse().ok()?,
         noise: Noise::ALL.into_iter().find(|n| n.name() == noise)?,
@@ -104,6 +136,12 @@ fn parse(text: &str) -> Option<Case> {
 }
 
 impl Case {
+    /// The active rectangle.
+    pub fn rectangle(&self) -> Rectangle {
+        let whole = Rectangle::whole(self.width, self.height);
+        self.active.unwrap_or(whole)
+    }
+
     /// Cases that are simpler by one step.
     fn simpler(&self) -> Vec<Case> {
         let mut list = Vec::new();
@@ -116,12 +154,16 @@ impl Case {
         };
         add(&|c| c.faults.clear());
         add(&|c| _ = c.faults.pop());
+        add(&|c| c.active = None);
         for cut in [2, 4, 8] {
             add(&|c| c.width -= c.width / cut);
             add(&|c| c.height -= c.height / cut);
         }
         add(&|c| c.width = c.width.saturating_sub(1));
         add(&|c| c.height = c.height.saturating_sub(1));
+        for change in SMALLER {
+            add(&|c| c.active.iter_mut().for_each(change));
+        }
         add(&|c| c.depth = 8);
         add(&|c| c.format = c.format.saturating_sub(1));
         add(&|c| c.number /= 2);
@@ -144,3 +186,19 @@ impl Case {
         least
     }
 }
+
+/// One number of a rectangle made smaller; of a start by two as well, which leaves it even.
+const SMALLER: [fn(&mut Rectangle); 12] = [
+    |r| r.left = 0,
+    |r| r.top = 0,
+    |r| r.left = r.left.saturating_sub(2),
+    |r| r.top = r.top.saturating_sub(2),
+    |r| r.left = r.left.saturating_sub(1),
+    |r| r.top = r.top.saturating_sub(1),
+    |r| r.width -= r.width / 2,
+    |r| r.height -= r.height / 2,
+    |r| r.width -= r.width / 8,
+    |r| r.height -= r.height / 8,
+    |r| r.width = r.width.saturating_sub(1),
+    |r| r.height = r.height.saturating_sub(1),
+];

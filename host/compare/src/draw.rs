@@ -4,6 +4,7 @@ use crate::calls::CALLS;
 use crate::case::{Case, Fault};
 use crate::noise::{Noise, Size};
 use crate::random::Random;
+use crate::rectangles;
 
 /// Sides about each lag, each block of the sums and each power of two.
 const SHORT: [usize; 16] = [1, 1, 2, 3, 4, 5, 6, 7, 8, 9, 13, 16, 17, 31, 32, 33];
@@ -58,11 +59,12 @@ pub fn case(seed: u64, index: u64) -> Case {
         Noise::Halves => random.pick(&THOUSANDS),
         _ => size(&mut random),
     };
-    Case {
+    let mut case = Case {
         call,
         seed,
         width,
         height,
+        active: None,
         depth: match random.below(25) {
             0 => random.pick(&[0, 7, 9, 11, 13, 16, 255]),
             _ if !call.asks.depth => random.pick(&[8, 16]),
@@ -80,7 +82,11 @@ pub fn case(seed: u64, index: u64) -> Case {
             1 => vec![fault(&mut random), fault(&mut random)],
             _ => Vec::new(),
         },
+    };
+    if call.asks.frame {
+        rectangles::draw::place(&mut random, &mut case);
     }
+    case
 }
 
 /// The cases that every run has besides: the largest planes.
@@ -99,6 +105,9 @@ pub fn largest(fits: bool) -> Vec<Case> {
         "fit_ar_lag:11:7x4096:12:3:extreme:3:none",
         "fit_ar_lag:12:1023x515:10:2:coupled:3:none",
         "fit_ar_lag:13:4097x4096:8:0:flat:1:none",
+        "noise_estimate:17:4096x4096@4095x2047+0+1024:10:1:denoised:0:none",
+        "fit_chroma_corr:18:4096x4096@2047x4095+2048+0:12:2:largest:0:none",
+        "fit_ar_lag:19:1023x515@1021x301+2+106:12:1:extreme:3:none",
     ];
     if fits {
         list.extend([

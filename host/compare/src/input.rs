@@ -4,7 +4,9 @@ use crate::case::{Case, Fault};
 use crate::headers::{self, Header};
 use crate::noise::{self, Noise, Size};
 use crate::random::Random;
+use crate::rectangles::{self, outside};
 use crate::system::System;
+use grain::Rectangle;
 use oracle::{ChromaFormat, YuvFrame};
 
 /// A plane of the input: of which frame, denoised or not, and which component (0 Y, 1 Cb, 2 Cr).
@@ -18,9 +20,11 @@ pub struct Plane {
 /// The three planes of a destination. A register stands in the first, alone, and so do a header's bytes, one a sample.
 pub type Planes = [Vec<u16>; 3];
 
+#[derive(Clone)]
 pub struct Input {
     pub width: usize,
     pub height: usize,
+    pub active: Rectangle,
     pub depth: u8,
     pub format: u8,
     pub number: u64,
@@ -81,6 +85,7 @@ impl Input {
         let mut input = Input {
             width: case.width,
             height: case.height,
+            active: case.rectangle(),
             depth: case.depth,
             format: case.format,
             number: case.number,
@@ -91,7 +96,12 @@ impl Input {
             system: System::new(&mut random, case.call.asks.order),
             header: (case.call.header)(&mut random, case.format, case.number),
         };
-        input.fill(case, &mut random, size);
+        let framed = size == (case.width, case.height) && !rectangles::rules::broken(&input);
+        let picture = match framed {
+            true => (input.active.width, input.active.height),
+            false => size,
+        };
+        input.fill(case, &mut random, picture);
         for component in 0..case.call.destinations {
             let (w, h) = plane_size(case.format, size, component);
             input.destination[component] = (0..w * h).map(|_| random.bits() as u16).collect();
@@ -102,6 +112,9 @@ impl Input {
         if case.call.asks.header {
             let bytes = headers::draw::destination(&mut random, &input.header);
             input.destination[0] = bytes.into_iter().map(u16::from).collect();
+        }
+        if picture != size {
+            input.surround(case, &mut random);
         }
         for &fault in &case.faults {
             input.spoil(case, &mut random, fault);
@@ -119,7 +132,7 @@ impl Input {
         [&frame.y, &frame.u, &frame.v][plane.component]
     }
 
-    fn plane_mut(&mut self, plane: Plane) -> &mut Vec<u16> {
+    pub fn plane_mut(&mut self, plane: Plane) -> &mut Vec<u16> {
         let frames = if plane.denoised {
             &mut self.denoised
         } else {
@@ -132,7 +145,7 @@ impl Input {
             .expect("a component")
     }
 
-    /// The planes that the call is lent.
+    /// The planes that the call is lent, of a picture of this size.
     fn fill(&mut self, case: &Case, random: &mut Random, size: Size) {
         let lent = case.call.lent;
         let max = largest(case.depth);
@@ -172,6 +185,17 @@ impl Input {
             if component == 0 {
                 luma = first;
             }
+        }
+    }
+
+    /// Puts each lent plane into one of the frame's size, where the rectangle is. Around it are black bars, or any samples.
+    fn surround(&mut self, case: &Case, random: &mut Random) {
+        let largest = random.pick(&[0, largest(case.depth)]);
+        for &place in case.call.lent {
+            let size = plane_size(self.format, (self.width, self.height), place.component);
+            let part = rectangles::part(self.format, self.active, place.component);
+            let plane = self.plane_mut(place);
+            *plane = outside::surrounded(random, plane, size, part, largest);
         }
     }
 

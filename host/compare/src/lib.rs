@@ -15,6 +15,7 @@ pub mod outcome;
 pub mod questions;
 pub mod random;
 pub mod raw;
+pub mod rectangles;
 mod rust;
 pub mod scan;
 pub mod system;

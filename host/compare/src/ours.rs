@@ -12,7 +12,8 @@ use oracle::YuvFrame;
 
 fn lent<'a>(input: &Input, planes: &'a YuvFrame) -> Result<Frame<'a>, Refusal> {
     let format = Format::try_from(input.format)?;
-    let shape = Shape::new(input.width, input.height, input.depth, format);
+    let whole = Shape::new(input.width, input.height, input.depth, format);
+    let shape = whole.with_active(input.active);
     Ok(Frame::new(shape, &planes.y, &planes.u, &planes.v))
 }
 

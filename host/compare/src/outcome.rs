@@ -1,11 +1,13 @@
 //! What comes of a case, and what should.
 
-use crate::branches::Taken;
+use crate::branches::{self, Taken};
 use crate::calls::{Call, Words};
 use crate::case::Case;
 use crate::headers::{Header, rules};
 use crate::input::{Input, Planes};
 use crate::questions;
+use crate::random::Random;
+use crate::rectangles::{self, outside};
 use grain::Refusal;
 use std::fmt;
 
@@ -45,13 +47,20 @@ fn raw(call: &Call, input: &Input) -> Outcome {
     }
 }
 
-/// What both should do: refuse with the first question failed and leave the destinations, or else do as the Rust does.
-fn due(call: &Call, input: &Input) -> Outcome {
-    let mut planes = input.destination.clone();
-    let answer = match questions::first_failed(call, input) {
+/// What the C interface does once every sample outside the rectangle is another, if there is any.
+fn changed(call: &Call, input: &mut Input, seed: u64) -> Option<Outcome> {
+    let samples = outside::change(&mut Random::new(!seed), call, input);
+    (samples > 0).then(|| raw(call, input))
+}
+
+/// What both should do: refuse with the first question failed and leave the destinations, or else do as the Rust does with
+/// what the call is to look at.
+fn due(call: &Call, seen: &Input, refused: Option<u32>) -> Outcome {
+    let mut planes = seen.destination.clone();
+    let answer = match refused {
         None => {
-            let mut words = (call.rust)(input, &mut planes);
-            words.extend((call.added)(input));
+            let mut words = (call.rust)(seen, &mut planes);
+            words.extend((call.added)(seen));
             Ok(words)
         }
         Some(number) => Err(number),
@@ -68,10 +77,14 @@ pub struct Comparison {
     /// None of a format that the safe crate has no name for.
     pub ours: Option<Outcome>,
     pub raw: Outcome,
+    /// The C interface's again, with every sample outside the rectangle changed, if there is any and the call is to keep to
+    /// the rectangle.
+    pub changed: Option<Outcome>,
     pub due: Outcome,
     /// The call is accepted, writes no plane and has no words: there is nothing to compare.
     pub silent: bool,
-    /// The branches that an accepted case takes, or the rule that a refused header breaks, if it breaks just one.
+    /// The branches that an accepted case takes, or the rule that a refused header or rectangle breaks, if it breaks just
+    /// one.
     pub taken: Taken,
     /// What is written, where it is a header.
     pub header: Option<Header>,
@@ -79,19 +92,31 @@ pub struct Comparison {
 
 impl Comparison {
     pub fn new(case: &Case) -> Self {
-        let (call, input) = (case.call, Input::new(case));
-        let ours = (input.format <= 3).then(|| ours(call, &input));
-        let (raw, due) = (raw(call, &input), due(call, &input));
+        let (call, mut input) = (case.call, Input::new(case));
+        let refused = questions::first_failed(call, &input);
+        let (ours, raw) = (
+            (input.format <= 3).then(|| ours(call, &input)),
+            raw(call, &input),
+        );
+        let within = refused.is_none() && call.keeps_to_the_rectangle();
+        let part = within.then(|| rectangles::cut_out(&input)).flatten();
+        let seen = part.as_ref().unwrap_or(&input);
+        let due = due(call, seen, refused);
         let wordless = due.answer.as_ref().is_ok_and(Words::is_empty);
         let silent = wordless && call.destinations == 0;
-        let taken = match &due.answer {
-            Ok(words) if !silent => (call.branches.taken)(&input, words),
+        let mut taken = match &due.answer {
+            Ok(words) if !silent => (call.branches.taken)(seen, words),
             Err(10) => rules::alone(&input.header).into_iter().collect(),
             _ => Taken::new(),
         };
+        if call.asks.frame {
+            taken.extend(branches::rectangle(call, &input, refused));
+        }
+        let changed = part.and_then(|_| changed(call, &mut input, case.seed));
         Comparison {
             ours,
             raw,
+            changed,
             due,
             silent,
             taken,
@@ -100,8 +125,8 @@ impl Comparison {
     }
 
     pub fn agrees(&self) -> bool {
-        let ours = self.ours.iter();
-        ours.chain([&self.raw]).all(|found| *found == self.due) && !self.silent
+        let mut found = self.ours.iter().chain([&self.raw]).chain(&self.changed);
+        found.all(|outcome| *outcome == self.due) && !self.silent
     }
 }
 
@@ -113,12 +138,11 @@ impl fmt::Display for Comparison {
         if let Some(ours) = &self.ours {
             writeln!(f, "  ours {}", ours.shown())?;
         }
-        write!(
-            f,
-            "  C    {}\n  due  {}",
-            self.raw.shown(),
-            self.due.shown()
-        )?;
+        writeln!(f, "  C    {}", self.raw.shown())?;
+        if let Some(changed) = &self.changed {
+            writeln!(f, "  C, the outside changed: {}", changed.shown())?;
+        }
+        write!(f, "  due  {}", self.due.shown())?;
         match self.silent {
             true => write!(f, "\n  an accepted call that says nothing"),
             false => Ok(()),

@@ -3,13 +3,14 @@
 use crate::calls::Call;
 use crate::headers::rules;
 use crate::input::{Input, plane_size};
+use crate::rectangles;
 
 /// Which of the scope's questions a call is asked: those about things it receives.
 #[derive(Clone, Copy)]
 pub struct Asks {
     /// A size, and lent planes.
     pub size: bool,
-    /// A frame call: both sides at least 1.
+    /// A frame call: both sides at least 1, and an active rectangle.
     pub frame: bool,
     pub format: bool,
     pub depth: bool,
@@ -68,6 +69,11 @@ pub const QUESTIONS: &[Question] = &[
         passed: |_, input| input.format <= 3,
     },
     Question {
+        number: 12,
+        asked: |asks| asks.frame,
+        passed: |_, input| !rectangles::rules::broken(input),
+    },
+    Question {
         number: 5,
         asked: |asks| asks.size,
         passed: whole,
@@ -120,6 +126,12 @@ fn whole(call: &Call, input: &Input) -> bool {
 fn low(call: &Call, input: &Input) -> bool {
     let mut lent = call.lent.iter().flat_map(|&p| input.plane(p));
     lent.all(|&sample| u32::from(sample) < 1 << input.depth)
+}
+
+/// Whether a call passes a question of this number, asked or not.
+pub fn passed(number: u32, call: &Call, input: &Input) -> bool {
+    let mut numbered = QUESTIONS.iter().filter(|q| q.number == number);
+    numbered.all(|question| (question.passed)(call, input))
 }
 
 /// The number of the first question that the call is asked and fails.

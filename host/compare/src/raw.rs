@@ -8,7 +8,6 @@ use crate::input::{Input, Planes};
 use crate::rust::STEPS;
 use crate::words::{coefficients, float, positions, quantised, solution, whole};
 use grain::sys::{self, call};
-use grain::{Format, Shape};
 use oracle::YuvFrame;
 
 /// What a function of the C interface answers.
@@ -39,10 +38,12 @@ impl Record {
 }
 
 fn shape(input: &Input) -> sys::Shape {
-    let named = Shape::new(input.width, input.height, input.depth, Format::Monochrome);
     sys::Shape {
+        width: input.width,
+        height: input.height,
+        depth: input.depth,
         format: input.format,
-        ..named.into()
+        active: input.active.into(),
     }
 }
 

@@ -1,4 +1,4 @@
-//! The Rust's side of the table, by the oracle.
+//! The Rust's side of the table, by the oracle. It knows no rectangle: it is given the frame that one cuts out.
 
 use crate::calls::Words;
 use crate::headers::{bits, read};

@@ -6,6 +6,7 @@ use crate::input::{Input, plane_size};
 use crate::noise::Size;
 use crate::random::Random;
 use crate::system::System;
+use grain::Rectangle;
 use oracle::{ChromaFormat, YuvFrame, reach};
 
 fn frame(random: &mut Random, (width, height): Size, depth: u8) -> YuvFrame {
@@ -38,6 +39,7 @@ pub fn pair(size: Size, depth: u8) -> Input {
     Input {
         width: size.0,
         height: size.1,
+        active: Rectangle::whole(size.0, size.1),
         depth,
         format: 1,
         number: 0,

@@ -4,6 +4,7 @@ use crate::floats::ODD;
 use crate::random::Random;
 
 /// 25 equations, whatever part of them is used.
+#[derive(Clone)]
 pub struct System {
     pub a: Box<[[f64; 25]; 25]>,
     pub b: [f64; 25],

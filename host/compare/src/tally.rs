@@ -11,6 +11,8 @@ use std::fmt;
 struct Count {
     compared: u64,
     zero: u64,
+    /// How often again, with every sample outside the rectangle changed.
+    changed: u64,
     /// How often with each number.
     refused: BTreeMap<u32, u64>,
     /// How often each branch, and each rule broken alone.
@@ -31,6 +33,7 @@ impl Tally {
         let count = &mut self.0[at.expect("a call of the table")];
         count.compared += 1;
         count.zero += u64::from(found.due.is_zero());
+        count.changed += u64::from(found.changed.is_some());
         if let Err(number) = found.due.answer {
             *count.refused.entry(number).or_default() += 1;
         }
@@ -45,6 +48,7 @@ impl Tally {
         for (count, more) in self.0.iter_mut().zip(other.0) {
             count.compared += more.compared;
             count.zero += more.zero;
+            count.changed += more.changed;
             for (number, times) in more.refused {
                 *count.refused.entry(number).or_default() += times;
             }
@@ -58,7 +62,12 @@ impl Tally {
         self.0.iter().map(|count| count.compared).sum()
     }
 
-    /// The refusals, branches and broken rules that no case met, by call.
+    /// How many calls were made again with every sample outside the rectangle changed.
+    pub fn changed(&self) -> u64 {
+        self.0.iter().map(|count| count.changed).sum()
+    }
+
+    /// The refusals, branches and broken rules that no case met, and the outsides that none changed, by call.
     pub fn missed(&self) -> Vec<String> {
         let mut list = Vec::new();
         for (call, count) in CALLS.iter().zip(&self.0) {
@@ -68,6 +77,9 @@ impl Tally {
             list.extend(never.map(|number| format!("{}: refused with {number}", call.name)));
             let never = call.names().filter(|name| !count.taken.contains_key(name));
             list.extend(never.map(|name| format!("{}: {name}", call.name)));
+            if call.keeps_to_the_rectangle() && count.changed == 0 {
+                list.push(format!("{}: the outside changed", call.name));
+            }
         }
         list
     }
@@ -80,13 +92,20 @@ impl fmt::Display for Tally {
             QUESTIONS.iter().map(cell).collect()
         };
         let heads = cells(&|number| number.into());
-        let (call, compared, zeros) = ("call", "compared", "zeros");
+        let (call, compared, zeros, changed) = ("call", "compared", "zeros", "outside");
         let heads = &heads[7..];
-        writeln!(f, "{call:30}{compared:>9}{zeros:>9}  refused with{heads}")?;
+        writeln!(
+            f,
+            "{call:30}{compared:>9}{zeros:>9}{changed:>9}  refused with{heads}"
+        )?;
         for (call, count) in CALLS.iter().zip(&self.0) {
             let refused = cells(&|number| count.refused.get(&number).copied().unwrap_or(0));
-            let (name, compared, zeros) = (call.name, count.compared, count.zero);
-            writeln!(f, "{name:30}{compared:>9}{zeros:>9}       {refused}")?;
+            let (name, compared, zeros, changed) =
+                (call.name, count.compared, count.zero, count.changed);
+            writeln!(
+                f,
+                "{name:30}{compared:>9}{zeros:>9}{changed:>9}       {refused}"
+            )?;
         }
         for (call, count) in CALLS.iter().zip(&self.0) {
             writeln!(f, "{}", call.name)?;

@@ -10,7 +10,7 @@ use compare::outcome::Comparison;
 use compare::questions::QUESTIONS;
 use compare::raw::Record;
 use compare::tally::Tally;
-use grain::Refusal;
+use grain::{Rectangle, Refusal};
 use std::collections::HashSet;
 
 #[test]
@@ -19,6 +19,20 @@ fn cases_are_written_and_read() {
         let text = draw::case(3, index).to_string();
         let read: Case = text.parse().expect("a case");
         assert_eq!(read.to_string(), text);
+    }
+    let case = |frame: &str| format!("fit_ar_lag:1:{frame}:8:1:flat:1:none").parse::<Case>();
+    let active = case("9x8@5x4+2+0").expect("a case").rectangle();
+    let due = Rectangle {
+        left: 2,
+        top: 0,
+        width: 5,
+        height: 4,
+    };
+    assert_eq!(active, due);
+    let whole = case("9x8").expect("a case").rectangle();
+    assert_eq!(whole, Rectangle::whole(9, 8));
+    for frame in ["9x", "9x8@", "9x8@5x4", "9x8@5x4+2", "9x8@5x4+2+0+0"] {
+        assert!(case(frame).is_err(), "{frame}");
     }
     assert!("fit_ar_lag:1:2x3".parse::<Case>().is_err());
 }
@@ -35,6 +49,15 @@ fn a_failing_case_is_shrunk() {
     let case: Case = text.parse().expect("a case");
     let least = case.shrunk(|c| c.width >= 7 && c.height * c.number as usize >= 12);
     assert_eq!(least.to_string(), "fit_ar_lag:0:7x4:8:0:flat:3:none");
+
+    let text = "fit_ar_lag:900:61x40@30x21+16+8:12:1:coloured:3:none";
+    let case: Case = text.parse().expect("a case");
+    let apart = |c: &Case| c.rectangle().left >= 2 && c.rectangle().width >= 3;
+    let least = case.shrunk(|c| apart(c) && c.rectangle().height < c.height);
+    let due = "fit_ar_lag:0:0x1@3x0+2+0:8:0:flat:0:none";
+    assert_eq!(least.to_string(), due);
+    let least = case.shrunk(|c| c.width >= 30);
+    assert_eq!(least.to_string(), "fit_ar_lag:0:30x0:8:0:flat:0:none");
 }
 
 /// An answer is words or a destination that isn't as it was.
@@ -132,5 +155,9 @@ fn what_was_missed_is_named() {
     assert_eq!(tally.total(), 1);
     let missed = tally.missed();
     assert!(missed.contains(&"fit_ar_lag: chroma unsolved".into()));
+    assert!(missed.contains(&"denoise_frame: 12: no row".into()));
+    assert!(missed.contains(&"film_grain_probe: rectangle: at no edge".into()));
+    assert!(missed.contains(&"film_grain_probe: the outside changed".into()));
+    assert!(!missed.contains(&"denoise_frame: the outside changed".into()));
     assert!(missed.contains(&"RandomRegister::next: refused with 9".into()));
 }

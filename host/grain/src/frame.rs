@@ -50,14 +50,57 @@ impl TryFrom<u8> for Format {
     }
 }
 
-/// A frame's size in luma samples, its depth in bits (8, 10 or 12) and its format.
+/// A part of a frame, in luma samples.
+#[derive(Debug, Clone, Copy, PartialEq, Eq, Hash)]
+pub struct Rectangle {
+    /// Columns to the left of it.
+    pub left: usize,
+    /// Rows above it.
+    pub top: usize,
+    /// Its columns.
+    pub width: usize,
+    /// Its rows.
+    pub height: usize,
+}
+
+impl Rectangle {
+    /// All of a frame of this size.
+    pub const fn whole(width: usize, height: usize) -> Self {
+        Self {
+            left: 0,
+            top: 0,
+            width,
+            height,
+        }
+    }
+}
+
+impl fmt::Display for Rectangle {
+    fn fmt(&self, f: &mut fmt::Formatter<'_>) -> fmt::Result {
+        let Rectangle {
+            left,
+            top,
+            width,
+            height,
+        } = self;
+        write!(f, "{width}×{height} at {left},{top}")
+    }
+}
+
+/// A frame's size in luma samples, its depth in bits (8, 10 or 12), its format and its active rectangle, outside which
+/// there is no picture: black bars have no grain. Profiles, correlations, fits and gates of a frame are those of the frame
+/// that the rectangle cuts out; a frame is denoised as a whole.
 ///
 /// ```
-/// use grain::{Format, Shape};
+/// use grain::{Format, Rectangle, Shape};
 ///
 /// let shape = Shape::new(5, 3, 8, Format::Yuv422);
 /// assert_eq!((shape.luma_samples(), shape.chroma_samples()), (15, 9));
+/// assert_eq!(shape.active, Rectangle::whole(5, 3));
 /// assert_eq!(shape.to_string(), "5×3, 8 bits, 4:2:2");
+///
+/// let letterboxed = shape.with_active(Rectangle { left: 0, top: 1, width: 5, height: 1 });
+/// assert_eq!(letterboxed.to_string(), "5×3, 8 bits, 4:2:2, active 5×1 at 0,1");
 /// ```
 #[derive(Debug, Clone, Copy, PartialEq, Eq, Hash)]
 #[non_exhaustive]
@@ -70,17 +113,43 @@ pub struct Shape {
     pub depth: u8,
     /// Which chroma planes there are.
     pub format: Format,
+    /// Where the picture is. It starts at an even place in a direction that the format halves, and ends anywhere.
+    pub active: Rectangle,
 }
 
 impl Shape {
-    /// Any numbers make a shape; a call asks about them.
+    /// A frame that is active as a whole. Any numbers make a shape; a call asks about them.
     pub const fn new(width: usize, height: usize, depth: u8, format: Format) -> Self {
         Self {
             width,
             height,
             depth,
             format,
+            active: Rectangle::whole(width, height),
         }
+    }
+
+    /// The same frame with another active rectangle.
+    ///
+    /// ```
+    /// use grain::{Format, Frame, Pair, Rectangle, Refusal, Shape, noise_estimate};
+    ///
+    /// // Two rows of picture between black bars.
+    /// let shape = Shape::new(3, 4, 8, Format::Monochrome);
+    /// let y = [0, 0, 0, 33, 33, 33, 33, 33, 33, 0, 0, 0];
+    /// let clean = [0, 0, 0, 32, 32, 32, 32, 32, 32, 0, 0, 0];
+    /// let profile = |top, height| {
+    ///     let active = Rectangle { left: 0, top, width: 3, height };
+    ///     let frame = |plane| Frame::new(shape.with_active(active), plane, &[], &[]);
+    ///     noise_estimate(&Pair::new(frame(&y), frame(&clean)).expect("one shape"))
+    /// };
+    /// assert_eq!(profile(0, 4)?.luma.sigma16, 11);
+    /// assert_eq!(profile(1, 2)?.luma.sigma16, 16);
+    /// assert_eq!(profile(1, 4), Err(Refusal::ActiveRectangle));
+    /// # Ok::<(), Refusal>(())
+    /// ```
+    pub const fn with_active(self, active: Rectangle) -> Self {
+        Self { active, ..self }
     }
 
     /// 0 of a monochrome frame, half of luma's rounded up in 4:2:0 and 4:2:2, luma's in 4:4:4.
@@ -115,7 +184,22 @@ impl Shape {
 impl fmt::Display for Shape {
     fn fmt(&self, f: &mut fmt::Formatter<'_>) -> fmt::Result {
         let (w, h, depth, format) = (self.width, self.height, self.depth, self.format.name());
-        write!(f, "{w}×{h}, {depth} bits, {format}")
+        write!(f, "{w}×{h}, {depth} bits, {format}")?;
+        match self.active == Rectangle::whole(w, h) {
+            true => Ok(()),
+            false => write!(f, ", active {}", self.active),
+        }
+    }
+}
+
+impl From<Rectangle> for sys::Rectangle {
+    fn from(rectangle: Rectangle) -> Self {
+        sys::Rectangle {
+            left: rectangle.left,
+            top: rectangle.top,
+            width: rectangle.width,
+            height: rectangle.height,
+        }
     }
 }
 
@@ -126,6 +210,7 @@ impl From<Shape> for sys::Shape {
             height: shape.height,
             depth: shape.depth,
             format: shape.format as u8,
+            active: shape.active.into(),
         }
     }
 }
@@ -134,7 +219,7 @@ impl From<Shape> for sys::Shape {
 #[derive(Debug, Clone, Copy)]
 #[non_exhaustive]
 pub struct Frame<'a> {
-    /// Its size, depth and format.
+    /// Its size, depth, format and active rectangle.
     pub shape: Shape,
     /// Luma.
     pub y: &'a [u16],

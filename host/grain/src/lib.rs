@@ -8,6 +8,8 @@
 //! Frames that are compared, a frame and its denoised copy or two such pairs, travel as one value ([`Pair`],
 //! [`TwoFrames`]), which can be made of frames of one shape only.
 //!
+//! A frame with black bars has its picture in a part of it, its active rectangle ([`Shape::with_active`]).
+//!
 //! ```
 //! use grain::{Format, Frame, Pair, Refusal, Shape};
 //!
@@ -46,7 +48,7 @@ pub mod sys;
 
 pub use denoise::{denoise_frame, denoise_plane};
 pub use fit::{ArFit, ChromaCorr, ar_positions, fit_ar_lag, fit_chroma_corr, solve_normal};
-pub use frame::{Chroma, Format, Frame, SIDE_LIMIT, Shape};
+pub use frame::{Chroma, Format, Frame, Rectangle, SIDE_LIMIT, Shape};
 pub use gate::{chroma_noise_gate, film_grain_probe, lag_h_rho};
 pub use header::{FilmGrainParams, FrameType, MAX_HEADER_BYTES, write_film_grain_params};
 pub use pair::{Pair, ShapeMismatch, TwoFrames};

@@ -76,6 +76,8 @@ refusals! {
         "the depth must be 8, 10 or 12 bits"
     Format 4 "Is the format 0 to 3?"
         "the format must be monochrome, 4:2:0, 4:2:2 or 4:4:4"
+    ActiveRectangle 12 "In a frame call, does the active rectangle hold a sample, lie in the frame, and start at an even place in a direction that the format halves?"
+        "the active rectangle must hold a sample, lie in the frame, and start at an even place where the format halves"
     PlaneLength 5 "Has every lent plane, destinations included, exactly its number of samples?"
         "every plane must have as many samples as its size says"
     SampleAboveDepth 6 "In a call with a depth, is every source and denoised sample below 2^depth?"

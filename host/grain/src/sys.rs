@@ -4,6 +4,16 @@
 //! beside it says, so that with 0 it may be null, and without a number for what the header says; what is written overlaps
 //! nothing else. The safe functions of this crate see to that.
 
+/// `grain_rectangle`
+#[repr(C)]
+#[derive(Debug, Clone, Copy)]
+pub struct Rectangle {
+    pub left: usize,
+    pub top: usize,
+    pub width: usize,
+    pub height: usize,
+}
+
 /// `grain_shape`
 #[repr(C)]
 #[derive(Debug, Clone, Copy)]
@@ -12,6 +22,7 @@ pub struct Shape {
     pub height: usize,
     pub depth: u8,
     pub format: u8,
+    pub active: Rectangle,
 }
 
 /// `grain_sigma`

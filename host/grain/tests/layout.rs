@@ -5,7 +5,8 @@ use std::mem::{offset_of, size_of};
 
 #[test]
 fn sizes() {
-    assert_eq!(size_of::<Shape>(), 24);
+    assert_eq!(size_of::<Rectangle>(), 32);
+    assert_eq!(size_of::<Shape>(), 56);
     assert_eq!(size_of::<Sigma>(), 16);
     assert_eq!(size_of::<Profile<8>>(), 200);
     assert_eq!(size_of::<Profile<4>>(), 104);
@@ -27,7 +28,11 @@ fn sizes() {
 
 #[test]
 fn places() {
+    assert_eq!(offset_of!(Rectangle, top), 8);
+    assert_eq!(offset_of!(Rectangle, width), 16);
+    assert_eq!(offset_of!(Rectangle, height), 24);
     assert_eq!(offset_of!(Shape, format), 17);
+    assert_eq!(offset_of!(Shape, active), 24);
     assert_eq!(offset_of!(Estimate, luma), 8);
     assert_eq!(offset_of!(Estimate, cb), 208);
     assert_eq!(offset_of!(Estimate, cr), 312);

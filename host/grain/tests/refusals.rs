@@ -59,13 +59,46 @@ fn numbers_of_a_shape() {
     refused(of(3, 3, 8), Refusal::PlaneLength);
 }
 
+/// Rectangles that are empty, leave the frame of [`SHAPE`], by sums that would wrap as well, or start at an odd place.
+#[test]
+fn active_rectangles() {
+    const MAX: usize = usize::MAX;
+    for (left, top, width, height) in [
+        (0, 0, 0, 2),
+        (0, 0, 3, 0),
+        (0, 0, 0, 0),
+        (2, 0, 2, 2),
+        (0, 0, 3, 3),
+        (4, 0, 1, 2),
+        (0, 2, 3, 1),
+        (MAX - 1, 0, 3, 2),
+        (2, 0, MAX, 2),
+        (0, MAX - 1, 3, 3),
+        (0, 2, 3, MAX),
+        (MAX, MAX, MAX, MAX),
+        (1, 0, 2, 2),
+        (0, 1, 3, 1),
+    ] {
+        let active = Rectangle {
+            left,
+            top,
+            width,
+            height,
+        };
+        refused(SHAPE.with_active(active), Refusal::ActiveRectangle);
+    }
+}
+
 /// The first question that fails is the one that is named.
 #[test]
 fn order_of_questions() {
     let of = |width, height| Shape::new(width, height, 9, Format::Yuv420);
     refused(of(SIDE_LIMIT + 1, 0), Refusal::SideAbove4096);
     refused(of(1, 0), Refusal::EmptyFrame);
-    refused(of(1, 1), Refusal::Depth);
+    let none = Rectangle::whole(0, 0);
+    refused(of(1, 1).with_active(none), Refusal::Depth);
+    let longer = Shape::new(3, 3, 8, Format::Yuv420);
+    refused(longer.with_active(none), Refusal::ActiveRectangle);
 }
 
 #[test]
@@ -81,6 +114,21 @@ fn planes() {
     assert_eq!(noise_estimate(&pair), Err(Refusal::SampleAboveDepth));
     assert_eq!(film_grain_probe(&twice(pair)), Ok(false));
     assert_eq!(fit_ar_lag(&pair, 4), Err(Refusal::SampleAboveDepth));
+}
+
+/// A frame's samples are asked about wherever they stand.
+#[test]
+fn a_sample_outside_the_active_rectangle() {
+    let shape = SHAPE.with_active(Rectangle::whole(1, 1));
+    let low = frame(shape);
+    let high = Frame::new(shape, &[9, 9, 9, 9, 9, 256], low.cb, low.cr);
+    assert!(noise_estimate(&pair(low, low)).is_ok());
+    let refused = Refusal::SampleAboveDepth;
+    assert_eq!(denoised(&high), (Err(refused), [7; 10]));
+    assert_eq!(noise_estimate(&pair(low, high)), Err(refused));
+    assert_eq!(fit_chroma_corr(&pair(high, low)), Err(refused));
+    assert_eq!(fit_ar_lag(&pair(high, low), 1), Err(refused));
+    assert_eq!(film_grain_probe(&twice(pair(low, high))), Err(refused));
 }
 
 #[test]

@@ -5,13 +5,14 @@ use grain::*;
 
 const SHAPE: Shape = Shape::new(4, 2, 8, Format::Yuv422);
 
-/// Shapes that differ from [`SHAPE`] in one number, and one of as many samples.
-const OTHERS: [Shape; 5] = [
+/// Shapes that differ from [`SHAPE`] in one number, one of as many samples, and one with another active rectangle.
+const OTHERS: [Shape; 6] = [
     Shape::new(5, 2, 8, Format::Yuv422),
     Shape::new(4, 1, 8, Format::Yuv422),
     Shape::new(4, 2, 10, Format::Yuv422),
     Shape::new(4, 2, 8, Format::Monochrome),
     Shape::new(2, 4, 8, Format::Yuv422),
+    SHAPE.with_active(Rectangle::whole(4, 1)),
 ];
 
 fn frame(shape: Shape) -> Frame<'static> {

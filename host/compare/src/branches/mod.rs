@@ -7,6 +7,7 @@ mod fits;
 mod gates;
 mod headers;
 mod profiles;
+mod rectangles;
 mod root;
 mod solver;
 
@@ -15,6 +16,7 @@ pub use fits::{CHROMA_CORRELATION, FIT};
 pub use gates::{CB_GATE, CR_GATE, LUMA_GATE, ROW_CORRELATION};
 pub use headers::HEADER;
 pub use profiles::{PROFILE, SIGMA16};
+pub use rectangles::{RECTANGLES, rectangle};
 pub use root::ROOT;
 pub use solver::{QUANTISED_SOLUTION, QUANTISER, SOLVER};
 

@@ -2,6 +2,7 @@
 //! standard output.
 
 mod headers;
+mod rectangles;
 mod roots;
 
 use compare::calls::{CALLS, Call};
@@ -250,8 +251,8 @@ fn main() {
     println!("Machine: {}.\n", machine());
     println!(
         "Ours is libgrain.a through the safe Rust crate, all questions asked; the Rust is that of oracle/, built with the same \
-         profile. One thread, 4:2:0, the same planes: a gradient under noise of about four 8-bit steps, and its denoised \
-         copies. The two are timed in turn, and the best of each stands here: the \
+         profile. One thread, 4:2:0, whole frames, the same planes: a gradient under noise of about four 8-bit steps, and \
+         its denoised copies. The two are timed in turn, and the best of each stands here: the \
          processor time of the thread, page faults included. The figures of a frame pair are both \
          frames denoised, the profile, the three gates, the chroma correlation and the fits of lags 1, 2 and 3. The Rust's \
          solver is handed a new `Vec` of `Vec`s each time, whose making is in its time; a register row is five steps."
@@ -263,6 +264,7 @@ fn main() {
             }
         }
     }
+    rectangles::table(if quick { SIZES[0] } else { SIZES[1] }, 10);
     headers::table();
     roots::table();
     if !quick {
