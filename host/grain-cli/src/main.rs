@@ -22,6 +22,7 @@ mod summary;
 mod table;
 mod tally;
 mod verdict;
+mod window;
 mod words;
 
 use anyhow::{Context, Result};

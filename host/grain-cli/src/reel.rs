@@ -189,7 +189,7 @@ impl Reel {
             return Ok(None);
         }
         let (name, pool) = (self.name.clone(), self.pool.clone());
-        let still = Still::new(self.at, name, pool, source, denoised);
+        let still = Still::new(self.at, name, pool, self.shape(), source, denoised);
         self.at += 1;
         Ok(Some(Arc::new(still)))
     }
