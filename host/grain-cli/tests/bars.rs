@@ -19,7 +19,7 @@ fn shape(format: Format) -> Shape {
 /// Bars of so many samples on the left, above, on the right and below.
 type Bars = [usize; 4];
 
-/// A picture in a frame. Where a bar is odd and the format halves, a chroma sample across its edge is a bar's.
+/// A picture in a black frame, of luma alone: bars are told by luma.
 fn barred(shape: Shape, [left, top, right, bottom]: Bars, seed: u64) -> Planes {
     let (width, height) = (shape.width - left - right, shape.height - top - bottom);
     let picture = Planes::random(
