@@ -1,9 +1,10 @@
 //! The words of the command line.
 
+use crate::active::Wanted;
 use clap::builder::{PathBufValueParser, PossibleValuesParser, TypedValueParser};
 use clap::{Args, Parser, Subcommand};
 use clap_complete::Shell;
-use grain::{Format, FrameType};
+use grain::{Format, FrameType, Rectangle};
 use std::num::NonZeroUsize;
 use std::path::{Path, PathBuf};
 
@@ -39,6 +40,9 @@ pub struct Report {
     /// Take this clip as the denoised copy, in place of the built-in denoiser's
     #[arg(long, value_name = "CLIP")]
     pub denoised: Option<PathBuf>,
+    /// Take only this part of each frame: left, top, width and height in luma samples; auto leaves black bars out
+    #[arg(long, value_name = "L,T,W,H|auto", value_parser = active)]
+    pub active: Option<Wanted>,
     /// Begin at frame N, past a leader; the verdict goes by the first pair from there
     #[arg(long, value_name = "N", default_value = "0")]
     pub from: usize,
@@ -107,6 +111,22 @@ pub struct Completions {
     /// Whose completions
     #[arg(value_enum)]
     pub shell: Shell,
+}
+
+fn active(words: &str) -> Result<Wanted, String> {
+    if words == "auto" {
+        return Ok(Wanted::Auto);
+    }
+    let numbers: Result<Vec<usize>, _> = words.split(',').map(str::parse).collect();
+    match numbers.as_deref() {
+        Ok(&[left, top, width, height]) => Ok(Wanted::Given(Rectangle {
+            left,
+            top,
+            width,
+            height,
+        })),
+        _ => Err("give left, top, width and height, as 0,138,1920,804, or auto".to_string()),
+    }
 }
 
 fn svg(name: &str) -> Result<PathBuf, String> {

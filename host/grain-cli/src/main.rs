@@ -1,5 +1,6 @@
 //! The command `grain`: a clip's film-grain figures, its denoised copy, and the grain part of a frame header.
 
+mod active;
 mod args;
 mod clip;
 mod denoise;
@@ -22,6 +23,7 @@ mod summary;
 mod table;
 mod tally;
 mod verdict;
+mod window;
 mod words;
 
 use anyhow::{Context, Result};

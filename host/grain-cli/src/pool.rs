@@ -5,7 +5,7 @@ use grain::Shape;
 use std::sync::{Mutex, PoisonError};
 
 pub struct Pool {
-    pub shape: Shape,
+    shape: Shape,
     spare: Mutex<Vec<Picture>>,
 }
 

@@ -1,13 +1,14 @@
 //! A clip with its denoised copy, handed out frame by frame to every core.
 
-use crate::clip::Reader;
+use crate::clip::{Picture, Reader};
 use crate::pool::Pool;
 use crate::progress::Progress;
 use crate::say::say;
 use crate::still::{Still, Task};
 use anyhow::{Result, bail};
-use grain::Shape;
+use grain::{Rectangle, Shape};
 use rayon::prelude::*;
+use std::collections::VecDeque;
 use std::path::Path;
 use std::sync::Arc;
 
@@ -39,11 +40,14 @@ pub struct Reel {
     pub copy: Option<Reader>,
     /// Both, in messages.
     name: Arc<str>,
+    shape: Shape,
     pool: Arc<Pool>,
     part: Part,
-    /// The next frame to read, and the next to work on.
+    /// The next frame to take, and the next to work on.
     at: usize,
     wanted: usize,
+    /// Frames that were looked at and are to be taken, each with its denoised copy where one is given.
+    ahead: VecDeque<(Picture, Option<Picture>)>,
     /// The frame read last, if the next task may want it.
     held: Option<Arc<Still>>,
 }
@@ -78,6 +82,7 @@ impl Reel {
             None => clip.name.as_str().into(),
         };
         Ok(Reel {
+            shape: clip.header.shape,
             pool: Arc::new(Pool::new(clip.header.shape)),
             clip,
             copy,
@@ -85,12 +90,34 @@ impl Reel {
             part,
             at: 0,
             wanted: part.from,
+            ahead: VecDeque::new(),
             held: None,
         })
     }
 
+    /// The frames' shape, active as a whole until a part of it is.
     pub fn shape(&self) -> Shape {
-        self.clip.header.shape
+        self.shape
+    }
+
+    pub fn activate(&mut self, active: Rectangle) {
+        self.shape = self.shape.with_active(active);
+    }
+
+    /// Shows the luma of the first frames taken, up to so many.
+    pub fn look(&mut self, frames: usize, mut see: impl FnMut(&[u16])) -> Result<()> {
+        while self.at < self.part.from {
+            if !self.pass()? {
+                return Ok(());
+            }
+        }
+        while self.ahead.len() < frames
+            && let Some(read) = self.read()?
+        {
+            see(&read.0.y);
+            self.ahead.push_back(read);
+        }
+        Ok(())
     }
 
     /// The first frame taken.
@@ -172,9 +199,25 @@ impl Reel {
         Ok(Some(Task { first, second }))
     }
 
-    /// The next frame, or `None` at the end of both clips.
+    /// The next frame, or `None` at the end.
     fn still(&mut self) -> Result<Option<Arc<Still>>> {
-        if self.at >= self.part.end() {
+        let next = match self.ahead.pop_front() {
+            Some(ahead) => Some(ahead),
+            None => self.read()?,
+        };
+        let Some((source, denoised)) = next else {
+            return Ok(None);
+        };
+        let (name, pool) = (self.name.clone(), self.pool.clone());
+        let still = Still::new(self.at, name, pool, self.shape, source, denoised);
+        self.at += 1;
+        Ok(Some(Arc::new(still)))
+    }
+
+    /// Reads a frame and its denoised copy, or `None` at the end of both clips.
+    fn read(&mut self) -> Result<Option<(Picture, Option<Picture>)>> {
+        let at = self.at + self.ahead.len();
+        if at >= self.part.end() {
             return Ok(None);
         }
         let mut source = self.pool.take();
@@ -183,18 +226,15 @@ impl Reel {
         if let Some(copy) = &mut self.copy {
             let picture = denoised.insert(self.pool.take());
             let of_copy = copy.picture(picture)?;
-            both(&self.clip, copy, there, of_copy, self.at)?;
+            both(&self.clip, copy, there, of_copy, at)?;
         }
-        if !there {
-            return Ok(None);
-        }
-        let (name, pool) = (self.name.clone(), self.pool.clone());
-        let still = Still::new(self.at, name, pool, source, denoised);
-        self.at += 1;
-        Ok(Some(Arc::new(still)))
+        Ok(there.then_some((source, denoised)))
     }
 
     fn pass(&mut self) -> Result<bool> {
+        if !self.ahead.is_empty() {
+            return Ok(self.still()?.is_some());
+        }
         if self.at >= self.part.end() {
             return Ok(false);
         }

@@ -1,5 +1,6 @@
 //! The report, written frame by frame, so that a reel takes no more memory than a short clip.
 
+use crate::active::Active;
 use crate::args::Report;
 use crate::figures::{Planes, autocorrelation, figures};
 use crate::files::{self, Place, Stream, shown};
@@ -24,6 +25,7 @@ pub fn run(asked: &Report) -> Result<()> {
     let begin =
         |path: &Path| Ok::<_, anyhow::Error>((shown(path), Output::create(path, asked.force)?));
     let plot = asked.plot.as_deref().map(begin).transpose()?;
+    let active = Active::settle(asked.active, &mut reel)?;
     let depth = reel.shape().depth;
     let mut paper = Paper { read: true };
     let mut tally = Tally::default();
@@ -49,7 +51,7 @@ pub fn run(asked: &Report) -> Result<()> {
             Ok(paper.read || plot.is_some())
         },
     )?;
-    let clip = tally.clip(&reel).context("no frame was reported")?;
+    let clip = tally.clip(&reel, active).context("no frame was reported")?;
     if let (Some((name, mut output)), Some(picture)) = (plot, &picture) {
         output
             .write_all(plot::svg(&clip, picture)?.as_bytes())

@@ -2,8 +2,9 @@
 
 use crate::clip::Picture;
 use crate::pool::Pool;
+use crate::window::Window;
 use anyhow::{Error, Result, anyhow};
-use grain::{Frame, Pair, Refusal, Shape};
+use grain::{Frame, Pair, Rectangle, Refusal, Shape};
 use std::sync::{Arc, OnceLock};
 
 /// A frame with its denoised copy, which is made when it is first asked for.
@@ -28,18 +29,19 @@ impl Drop for Still {
 }
 
 impl Still {
-    /// A frame of the pool's shape; its denoised copy is made where none is given.
+    /// A frame with pictures of the pool; its denoised copy is made where none is given.
     pub fn new(
         index: usize,
         name: Arc<str>,
         pool: Arc<Pool>,
+        shape: Shape,
         source: Picture,
         denoised: Option<Picture>,
     ) -> Self {
         Still {
             index,
             name,
-            shape: pool.shape,
+            shape,
             pool,
             source,
             denoised: denoised.map_or_else(OnceLock::new, |picture| OnceLock::from(Ok(picture))),
@@ -54,10 +56,32 @@ impl Still {
         let made = self.denoised.get_or_init(|| {
             let mut copy = self.pool.take();
             copy.words.clone_from(&self.source.words);
-            grain::denoise_frame(&self.source(), &mut copy.y, &mut copy.cb, &mut copy.cr)?;
+            self.denoise(&mut copy)?;
             Ok(copy)
         });
         made.as_ref().map_err(|&refusal| self.refused(refusal))
+    }
+
+    /// The active rectangle is denoised as a frame of its own, so that the step at a bar's edge is no noise. Around it the
+    /// copy is the frame.
+    fn denoise(&self, copy: &mut Picture) -> Result<(), Refusal> {
+        let (shape, source) = (self.shape, &self.source);
+        if shape.active == Rectangle::whole(shape.width, shape.height) {
+            return grain::denoise_frame(&self.source(), &mut copy.y, &mut copy.cb, &mut copy.cr);
+        }
+        let (luma, chroma) = (Window::luma(shape), Window::chroma(shape));
+        for (window, source, copy) in [
+            (luma, &source.y, &mut copy.y),
+            (chroma, &source.cb, &mut copy.cb),
+            (chroma, &source.cr, &mut copy.cr),
+        ] {
+            let inside = window.cut(source);
+            let mut denoised = vec![0; inside.len()];
+            grain::denoise_plane(&inside, &mut denoised, window.width, window.height)?;
+            copy.clone_from(source);
+            window.paste(&denoised, copy);
+        }
+        Ok(())
     }
 
     pub fn pair(&self) -> Result<Pair<'_>> {

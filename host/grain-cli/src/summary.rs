@@ -1,5 +1,6 @@
 //! The figures of a clip: its frames' figures taken together. Field names are those of the JSON report.
 
+use crate::active::Active;
 use crate::figures::{ChromaTaps, Fit, MarkCount, Planes, Profile};
 use crate::verdict::Verdict;
 use serde::Serialize;
@@ -13,6 +14,8 @@ pub struct ClipFigures {
     pub height: usize,
     pub depth: u8,
     pub format: &'static str,
+    /// What every figure is of.
+    pub active: Active,
     /// The first frame taken, how many were taken, and how many of those have figures.
     pub from: usize,
     pub frames: usize,

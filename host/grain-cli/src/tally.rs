@@ -1,5 +1,6 @@
 //! A clip's figures gathered one frame after another, so that no frame is kept.
 
+use crate::active::Active;
 use crate::figures::{
     ChromaTaps, Coefficient, Fit, FrameFigures, FrameFit, Gate, MarkCount, Planes, Profile,
 };
@@ -50,7 +51,7 @@ impl Tally {
     }
 
     /// The clip's figures; `None` where no frame was added.
-    pub fn clip(&self, reel: &Reel) -> Option<ClipFigures> {
+    pub fn clip(&self, reel: &Reel, active: Active) -> Option<ClipFigures> {
         let shape = reel.shape();
         let gates = self.gates.as_ref().map(|gates| gates.map(GateTally::count));
         let fit = |tally: &FitTally| ClipFit {
@@ -75,6 +76,7 @@ impl Tally {
             height: shape.height,
             depth: shape.depth,
             format: shape.format.name(),
+            active,
             from: reel.from(),
             frames: reel.frames(),
             reported: self.reported,

@@ -126,6 +126,16 @@ fn change(dice: &mut Dice, bytes: &mut Vec<u8>) {
     }
 }
 
+/// A rectangle that may fit, or auto.
+fn active(dice: &mut Dice) -> String {
+    match dice.below(2) {
+        0 => "auto".to_string(),
+        _ => [4, 4, 12, 12]
+            .map(|end| dice.below(end).to_string())
+            .join(","),
+    }
+}
+
 /// The words of a run.
 fn words(dice: &mut Dice) -> Vec<String> {
     if dice.below(8) == 0 {
@@ -139,6 +149,9 @@ fn words(dice: &mut Dice) -> Vec<String> {
         let mut words = vec!["report".into(), "clip.y4m".into()];
         if dice.below(3) == 0 {
             words.extend(["--denoised".into(), "copy.y4m".into()]);
+        }
+        if dice.below(4) == 0 {
+            words.extend(["--active".into(), active(dice)]);
         }
         if dice.below(2) == 0 {
             words.push("--json".into());

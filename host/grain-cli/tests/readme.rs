@@ -1,8 +1,10 @@
-//! What README and docs/REPORT.md show is what there is: the report, the plot, the two examples, and the header.
+//! What README and docs/REPORT.md show is what there is: the report, the plot, the two examples, the header, and what is
+//! said of a rectangle.
 
 mod common;
 
-use common::{folder, on_sample, said, sample, written};
+use common::{folder, header, on_sample, said, sample, written};
+use grain::{Format, Shape};
 use std::fs;
 use std::path::{Path, PathBuf};
 use std::process::Command;
@@ -85,6 +87,16 @@ fn the_header() {
     fs::write(folder.join("params.json"), refused).unwrap();
     let page = fs::read_to_string(root().join("docs/REPORT.md")).unwrap();
     assert!(page.contains(&said(&folder, &["header", "params.json"])));
+}
+
+#[test]
+fn the_rectangle_that_is_refused() {
+    let folder = folder("readme-active");
+    let film = header(Shape::new(1920, 1080, 8, Format::Yuv420)) + "\n";
+    fs::write(folder.join("film.y4m"), film).unwrap();
+    let page = fs::read_to_string(root().join("docs/REPORT.md")).unwrap();
+    let words = ["report", "film.y4m", "--active", "0,139,1920,802"];
+    assert!(page.contains(&said(&folder, &words)));
 }
 
 #[test]

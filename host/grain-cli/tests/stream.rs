@@ -60,6 +60,10 @@ fn a_reel_takes_no_more_memory_than_a_short_clip() {
     for (words, count) in [
         (&["report", "-", "--brief", "--threads", "2"][..], 2 * hour),
         (&["report", "-", "--json", "--threads", "2"], hour / 5),
+        (
+            &["report", "-", "--active", "auto", "--threads", "2"],
+            hour / 5,
+        ),
         (&["report", "-", "--threads", "2"], hour / 5),
         (&["denoise", "-", "-", "--threads", "2"], hour),
     ] {
@@ -68,23 +72,26 @@ fn a_reel_takes_no_more_memory_than_a_short_clip() {
     }
 }
 
-/// Frames of 1920 × 1080 at 10 bits: a few for each thread, and no more.
+/// Frames of 1920 × 1080 at 10 bits: a few for each thread, where bars are looked for eight more, and no more.
 #[test]
 fn a_large_picture_fits_100_megabytes() {
     let folder = folder("large");
     let shape = Shape::new(1920, 1080, 10, Format::Yuv420);
     let bytes = clip(&[Planes::random(shape, 1)]);
     let frame = bytes.iter().position(|&byte| byte == b'\n').unwrap() + 1;
-    let mut child = started(&folder, &["report", "-", "--brief", "--threads", "2"]);
-    let mut input = child.stdin.take().unwrap();
-    input.write_all(&bytes).unwrap();
-    for _ in 1..24 {
-        input.write_all(&bytes[frame..]).unwrap();
+    let words = ["report", "-", "--brief", "--threads", "2"];
+    for more in [&[][..], &["--active", "auto"]] {
+        let mut child = started(&folder, &[&words, more].concat());
+        let mut input = child.stdin.take().unwrap();
+        input.write_all(&bytes).unwrap();
+        for _ in 1..24 {
+            input.write_all(&bytes[frame..]).unwrap();
+        }
+        let most = most_memory(&child);
+        drop(input);
+        assert!(child.wait_with_output().unwrap().status.success());
+        assert!(most < 100_000, "{more:?}: {most} kB");
     }
-    let most = most_memory(&child);
-    drop(input);
-    assert!(child.wait_with_output().unwrap().status.success());
-    assert!(most < 100_000, "{most} kB");
 }
 
 /// A whole line is there before the frames after it are read.
@@ -253,15 +260,18 @@ fn completions_and_the_manual_page() {
     ] {
         let words = String::from_utf8(written(&folder, &["completions", shell])).unwrap();
         assert!(
-            words.contains(word) && words.contains("denoised") && words.contains("inter"),
+            words.contains(word)
+                && ["denoised", "active", "inter"]
+                    .iter()
+                    .all(|option| words.contains(option)),
             "{shell}: {words}"
         );
     }
     let page = String::from_utf8(written(&folder, &["man"])).unwrap();
     assert!(page.starts_with(".TH GRAIN 1"));
     for option in [
-        "denoised", "from", "every", "frames", "brief", "json", "plot", "force", "threads",
-        "format", "frame", "output",
+        "denoised", "active", "from", "every", "frames", "brief", "json", "plot", "force",
+        "threads", "format", "frame", "output",
     ] {
         assert!(
             page.contains(&format!("\\fB\\-\\-{option}\\fR")),

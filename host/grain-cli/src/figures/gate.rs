@@ -3,6 +3,7 @@
 use super::Planes;
 use crate::noise::correlation;
 use crate::still::Still;
+use crate::window::Window;
 use anyhow::Result;
 use grain::{Chroma, Format, NoiseEstimate, Refusal, TwoFrames};
 use serde::Serialize;
@@ -32,12 +33,14 @@ impl Gate {
         grain: bool,
         least_sigma: f64,
         sigma16: u64,
-        [src0, den0, src1, den1]: [&[u16]; 4],
-        (width, height): (usize, usize),
+        planes: [&[u16]; 4],
+        window: Window,
         depth: u8,
     ) -> Result<Self, Refusal> {
         let sigma = sigma16 as f64 / 16.0;
-        let row = grain::lag_h_rho(src0, den0, width, height, 1, depth)?;
+        let planes = planes.map(|plane| window.cut(plane));
+        let [src0, den0, src1, den1] = planes.each_ref().map(|plane| &**plane);
+        let row = grain::lag_h_rho(src0, den0, window.width, window.height, 1, depth)?;
         let between = correlation([src0, den0], [src1, den1]);
         let failed = if sigma < least_sigma {
             "sigma is too low"
@@ -66,14 +69,14 @@ pub fn gates(first: &Still, second: &Still, estimate: &NoiseEstimate) -> Result<
         let sigma16 = estimate.luma.sigma16;
         let grain = grain::film_grain_probe(&frames)?;
         let planes = frames.frames().map(|frame| frame.y);
-        let size = (shape.width, shape.height);
-        Gate::new(grain, LEAST_SIGMA[0], sigma16, planes, size, shape.depth)
+        let window = Window::luma(shape);
+        Gate::new(grain, LEAST_SIGMA[0], sigma16, planes, window, shape.depth)
     };
     let chroma = |plane, sigma16| {
         let grain = grain::chroma_noise_gate(&frames, plane, sigma16)?;
         let planes = frames.frames().map(|frame| frame.chroma(plane));
-        let size = (shape.chroma_width(), shape.chroma_height());
-        Gate::new(grain, LEAST_SIGMA[1], sigma16, planes, size, shape.depth)
+        let window = Window::chroma(shape);
+        Gate::new(grain, LEAST_SIGMA[1], sigma16, planes, window, shape.depth)
     };
     let colour = shape.format != Format::Monochrome;
     let asked = |refusal| second.refused(refusal);

@@ -16,6 +16,7 @@ pub use taps::ChromaTaps;
 
 use crate::noise::{Autocorrelation, noise};
 use crate::still::{Still, Task};
+use crate::window::Window;
 use anyhow::Result;
 use grain::Format;
 use serde::Serialize;
@@ -59,16 +60,17 @@ pub fn figures(task: &Task) -> Result<FrameFigures> {
     };
     let gates = |second: &Arc<Still>| gate::gates(still, second, &estimate);
     let (source, denoised, depth) = (pair.frame(), pair.denoised(), pair.shape().depth);
-    let chroma = |found, source, denoised| {
-        colour.then(|| Profile::of::<4>(found, [source, denoised], depth))
+    let (luma, chroma) = (Window::luma(pair.shape()), Window::chroma(pair.shape()));
+    let of_chroma = |found, source, denoised| {
+        colour.then(|| Profile::of::<4>(found, [source, denoised], chroma, depth))
     };
     Ok(FrameFigures {
         frame: still.index,
         seed: grain::grain_seed_for(still.index as u32),
         profile: Planes {
-            y: Profile::of(&estimate.luma, [source.y, denoised.y], depth),
-            cb: chroma(&estimate.cb, source.cb, denoised.cb),
-            cr: chroma(&estimate.cr, source.cr, denoised.cr),
+            y: Profile::of(&estimate.luma, [source.y, denoised.y], luma, depth),
+            cb: of_chroma(&estimate.cb, source.cb, denoised.cb),
+            cr: of_chroma(&estimate.cr, source.cr, denoised.cr),
         },
         gates: task.second.as_ref().map(gates).transpose()?,
         fits: (1..=3).map(fit).collect::<Result<_>>()?,
@@ -80,11 +82,15 @@ pub fn figures(task: &Task) -> Result<FrameFigures> {
 pub fn autocorrelation(still: &Still) -> Result<Planes<Autocorrelation>> {
     let pair = still.pair()?;
     let (source, denoised, shape) = (pair.frame(), pair.denoised(), pair.shape());
-    let of = |source, denoised, width| Autocorrelation::of(&noise(source, denoised), width);
+    let of = |source, denoised, window: Window| {
+        let noise = noise(&window.cut(source), &window.cut(denoised));
+        Autocorrelation::of(&noise, window.width)
+    };
+    let (luma, chroma) = (Window::luma(shape), Window::chroma(shape));
     let colour = shape.format != Format::Monochrome;
     Ok(Planes {
-        y: of(source.y, denoised.y, shape.width),
-        cb: colour.then(|| of(source.cb, denoised.cb, shape.chroma_width())),
-        cr: colour.then(|| of(source.cr, denoised.cr, shape.chroma_width())),
+        y: of(source.y, denoised.y, luma),
+        cb: colour.then(|| of(source.cb, denoised.cb, chroma)),
+        cr: colour.then(|| of(source.cr, denoised.cr, chroma)),
     })
 }

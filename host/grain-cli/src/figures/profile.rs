@@ -1,6 +1,7 @@
 //! The noise of a plane, whole and by intensity.
 
 use crate::noise::energy;
+use crate::window::Window;
 use serde::Serialize;
 
 /// Noise by intensity. Sigma is the root mean square in 8-bit steps.
@@ -66,6 +67,7 @@ impl Profile {
     pub(super) fn of<const BINS: usize>(
         found: &grain::Profile<BINS>,
         [source, denoised]: [&[u16]; 2],
+        window: Window,
         depth: u8,
     ) -> Self {
         let steps = |sigma16: u64| sigma16 as f64 / 16.0;
@@ -73,7 +75,7 @@ impl Profile {
             .bins
             .iter()
             .map(|bin| (steps(bin.sigma16), bin.count, bin.squares));
-        let energy = energy(source, denoised).into();
+        let energy = energy(&window.cut(source), &window.cut(denoised)).into();
         Profile::new(steps(found.sigma16), energy, depth, bins)
     }
 }

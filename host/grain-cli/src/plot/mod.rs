@@ -52,14 +52,17 @@ pub fn svg(clip: &ClipFigures, noise: &Planes<Autocorrelation>) -> Result<String
     Ok(words)
 }
 
-/// Which clip, less which copy, and of how many frames.
+/// Which clip, which part of its frames, less which copy, and of how many frames.
 fn title(clip: &ClipFigures, area: &Area) -> Result<()> {
     let copy = match &clip.denoised {
         Some(name) => shorten(file(name), 40),
         None => "the built-in denoiser's copy (picture detail counts as noise)".to_string(),
     };
+    let part = clip.active.part();
+    let part = part.map_or(String::new(), |part| format!(", active {part}"));
+    let name = shorten(file(&clip.name), 70 - part.chars().count());
     let lines = [
-        (20, format!("Noise of {}", shorten(file(&clip.name), 70))),
+        (20, format!("Noise of {name}{part}")),
         (14, format!("{}; source less {copy}", clip.about())),
     ];
     let middle = Pos::new(HPos::Center, VPos::Center);

@@ -34,6 +34,9 @@ pub fn frame(figures: &FrameFigures, depth: u8) -> String {
 pub fn clip(clip: &ClipFigures) -> String {
     let mut out = String::new();
     line(&mut out, style(head(clip)).bold());
+    if let Some(active) = clip.active.words() {
+        line(&mut out, format!("  active rectangle: {active}"));
+    }
     let copy = match &clip.denoised {
         Some(name) => shorten(name, COLUMNS - 17),
         None => "made by the built-in denoiser; picture detail counts as noise".to_string(),

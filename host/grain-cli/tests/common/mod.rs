@@ -1,6 +1,7 @@
 //! Clips for the tests, and the command run on them.
 #![allow(dead_code)] // each test file uses a part
 
+pub mod letterbox;
 pub mod record;
 
 use grain::{Format, Frame, Shape};
