@@ -75,7 +75,11 @@ typedef struct grain_rectangle {
  * Outside the active rectangle there is no picture: black bars have no grain. The profile, correlation, fit and gate of a
  * frame are those of the frame that the rectangle cuts out, and use no sample outside it. Of chroma it cuts out as much as
  * a frame of its size has, from left / 2 where the format halves the width and top / 2 where it halves the height. What
- * is lent is the whole planes, and the questions are about them; a frame is denoised as a whole. */
+ * is lent is the whole planes, and the questions are about them.
+ *
+ * A frame is denoised as a whole: a result beside a bar has some of the bar in it, alike in every frame, which a gate takes
+ * for no grain. So keep the rectangle a sample away from the bars, or two where the format halves; or denoise the planes
+ * that it cuts out, each by grain_denoise_plane. */
 typedef struct grain_shape {
     size_t width;
     size_t height;

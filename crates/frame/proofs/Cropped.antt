@@ -1,22 +1,20 @@
 -- A frame that the active rectangle cuts out: where its samples stand, and that a call on it is accepted where the call with the rectangle is, and sees all of it. Assumes nothing.
 use mathlib.Core.Path.{_≡_, refl, ap, _∙_}
-use mathlib.Core.Bool.{Bool, true, false, cond}
 use mathlib.Core.List.{List}
-use Prim.Native.Nat.{ℕ, _+_, _*_, _/_, _≤_, _<_}
+use Prim.Native.Nat.{ℕ, _+_, _*_, _≤_, _<_}
 use native.Mathlib.Nat.{le-trans, add-mul}
 use native.Mathlib.Omega.{arith}
-use lib.Dec.{eqb, leb}
 use lib.ListN.{length, getD}
-use Rattle.frame.specs.Size.{chromaWidth, chromaHeight}
 use Rattle.frame.specs.View.{whole}
-use Rattle.frame.specs.Planes.{wholeFrame, columnsOf, rowsOf, widthOf, heightOf, samplesOf, activeOf, viewOf, cropped, croppedFrame}
+use Rattle.frame.specs.Planes.{wholeFrame, columnsOf, rowsOf, widthOf, samplesOf, activeOf, viewOf, cropped, croppedFrame}
 use Rattle.frame.specs.Calls.{frameRefusal, fitRefusal, gateRefusal}
 use Rattle.frame.specs.declared.Shape.{Shape}
 use Rattle.frame.specs.declared.view.Component.{Component}
 use Rattle.frame.specs.declared.view.Component.the-variants.{Y, CbCr}
+use Rattle.frame.proofs.Size.{columns-le, rows-le}
 use Rattle.frame.proofs.Viewed.{viewed-length, viewed-at, viewed-low, part-whole, viewed-whole}
-use Rattle.frame.proofs.Facts.{Sides, Part, Known, LowPlane, is-plane}
-use Rattle.frame.proofs.Accepted.{Frame, FrameCall, frame-call, FitCall, fit-call, GateCall, gate-call}
+use Rattle.frame.proofs.Facts.{Known, LowPlane, is-plane}
+use Rattle.frame.proofs.Accepted.{Frame, FrameCall, frame-call, fit-call, GateCall, gate-call}
 use Rattle.frame.proofs.Passes.{frame-passes, fit-passes, gate-passes}
 
 -- row r and column c of a cropped plane are row top + r and column left + c of the plane
@@ -29,24 +27,12 @@ cropped-at s component plane r c l m =
 
 -- ---- a frame that is active as a whole is seen as a whole
 no-columns : (format : ℕ) (component : Component) → columnsOf format component 0 ≡ 0
-unfolding chromaWidth
-no-columns format Y = refl
-no-columns format CbCr = same (eqb format 0) (same (leb format 2) refl)
-  where
-    same : (b : Bool) {x : ℕ} → x ≡ 0 → cond b 0 x ≡ 0
-    same true e = refl
-    same false e = e
+no-columns format component = let none : columnsOf format component 0 ≤ 0 = columns-le format component (omega arith) in omega arith
 
 no-rows : (format : ℕ) (component : Component) → rowsOf format component 0 ≡ 0
-unfolding chromaHeight
-no-rows format Y = refl
-no-rows format CbCr = same (eqb format 0) (same (eqb format 1) refl)
-  where
-    same : (b : Bool) {x : ℕ} → x ≡ 0 → cond b 0 x ≡ 0
-    same true e = refl
-    same false e = e
+no-rows format component = let none : rowsOf format component 0 ≤ 0 = rows-le format component (omega arith) in omega arith
 
-pub whole-view : (w h depth format : ℕ) (component : Component) → viewOf (wholeFrame w h depth format) component ≡ whole (columnsOf format component w) (rowsOf format component h)
+whole-view : (w h depth format : ℕ) (component : Component) → viewOf (wholeFrame w h depth format) component ≡ whole (columnsOf format component w) (rowsOf format component h)
 whole-view w h depth format component = part-whole _ _ (no-columns format component) (no-rows format component)
 
 pub whole-cropped : (w h depth format : ℕ) (component : Component) (plane : List ℕ) → length plane ≡ samplesOf (wholeFrame w h depth format) component → cropped (wholeFrame w h depth format) component plane ≡ plane

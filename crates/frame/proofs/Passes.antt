@@ -1,10 +1,10 @@
 -- What is known of an accepted call is all that it is asked: a call of which this is known is accepted. The converse of `Accepted`. Assumes nothing.
 use mathlib.Core.Path.{_≡_, refl}
-use mathlib.Core.Bool.{Bool, true, false, cond, _||_, _&&_}
+use mathlib.Core.Bool.{Bool, true, false, cond}
 use mathlib.Core.Logic.{_⊎_, inl, inr}
 use mathlib.Core.List.{List, [], _∷_, _++_}
-use Prim.Native.Nat.{ℕ, _+_, _%_, _≤_}
-use lib.Dec.{leb, eqb}
+use Prim.Native.Nat.{ℕ, _+_, _%_}
+use lib.Dec.{eqb}
 use lib.ListN.{length}
 use borrow.Author.Tests.{le-leb, eq-eqb}
 use Rattle.laws.specs.Limits.{sideLimit}
@@ -17,7 +17,7 @@ use Rattle.frame.specs.Calls.{shapeNumbers, frameNumbers, gateNumbers, c
 use Rattle.frame.proofs.Refusal.{all-passed, both}
 use Rattle.frame.proofs.Samples.{below-low}
 use Rattle.frame.proofs.Facts.{Depth, Part, Known, Each, LowPlane, Lows}
-use Rattle.frame.proofs.Accepted.{Frame, FrameCall, FitCall, GateCall}
+use Rattle.frame.proofs.Accepted.{FrameCall, FitCall, GateCall}
 
 -- ---- the questions
 

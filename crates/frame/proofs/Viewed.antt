@@ -1,14 +1,14 @@
--- A view's samples, by row and column, are low where the plane's are; and the view of a whole plane is the plane. By the laws of `tabulate`, and of quotient and remainder. Assumes nothing.
+-- A view's samples, by row and column: they alone tell what it shows, and are low where the plane's are; and the view of a whole plane is the plane. By the laws of `tabulate`, and of quotient and remainder. Assumes nothing.
 use mathlib.Core.Path.{_≡_, sym, ap, _∙_}
 use mathlib.Core.Bool.{true}
 use mathlib.Core.List.{List}
-use Prim.Native.Nat.{ℕ, _+_, _*_, _/_, _%_, _^_, _<_}
-use native.Mathlib.Nat.{le-of-eq, lt-of-lt-of-le, mul-comm, zero-mul, div-add-mod'}
+use Prim.Native.Nat.{ℕ, zero, suc, _+_, _*_, _/_, _%_, _^_, _<_}
+use native.Mathlib.Nat.{le-of-eq, lt-of-lt-of-le, not-suc-le-zero, mul-comm, zero-mul, div-lt-iff-lt-mul, div-add-mod', mod-lt}
 use native.Mathlib.Omega.{arith}
 use lib.Arith.{digits-lt, digits-div, digits-mod}
 use lib.ListN.{length, getD}
 use lib.Seq.{ext-getD}
-use Rattle.laws.proofs.Table.{length-tabulate, getD-tabulate}
+use Rattle.laws.proofs.Table.{length-tabulate, getD-tabulate, tabulate-same}
 use Rattle.frame.specs.View.{placeAt, viewed, whole, part}
 use Rattle.frame.specs.Questions.{low}
 use Rattle.frame.specs.declared.view.View.{View}
@@ -24,6 +24,16 @@ unfolding viewed
 viewed-at v plane r c l m =
     getD-tabulate _ _ _ 0 (lt-of-lt-of-le (digits-lt l m) (le-of-eq (mul-comm (v .height) (v .width))))
     ∙ ap (λ (n : ℕ). getD plane n 0) (λ i. placeAt v (digits-div r m i) (digits-mod r m i))
+
+-- the row and the column of place i of what is shown
+pub row-column : (w h i : ℕ) → i < w * h → (i / w < h) × (i % w < w)
+row-column zero h i l = absurd (not-suc-le-zero (lt-of-lt-of-le l (le-of-eq (zero-mul h))))
+row-column (suc w) h i l = let wide : 0 < suc w = omega arith in (div-lt-iff-lt-mul wide .1 (lt-of-lt-of-le l (le-of-eq (mul-comm (suc w) h))), mod-lt i wide)
+
+-- planes that are the same where a view looks are the same to it
+pub viewed-same : (v : View) (a b : List ℕ) → ((r c : ℕ) → r < v .height → c < v .width → getD a (placeAt v r c) 0 ≡ getD b (placeAt v r c) 0) → viewed v a ≡ viewed v b
+unfolding viewed
+viewed-same v a b e = tabulate-same _ _ _ (λ i l. let p = row-column (v .width) (v .height) i l in e (i / v .width) (i % v .width) (p .0) (p .1))
 
 -- it shows no sample that is not the plane's
 pub viewed-low : (v : View) (depth : ℕ) (plane : List ℕ) → ((i : ℕ) → getD plane i 0 < 2 ^ depth) → low depth (viewed v plane) ≡ true

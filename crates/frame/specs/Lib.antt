@@ -6,4 +6,5 @@ pub mod Planes
 pub mod Questions
 pub mod Calls
 pub mod Cause
+-- how the work is divided: the contracts of the parts
 pub mod Inside

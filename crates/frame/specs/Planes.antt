@@ -1,6 +1,6 @@
 -- "planes Y, Cb, Cr in row order": the size of each plane of a frame, and what a call sees of it: "only samples and neighbours inside" the active rectangle.
 use mathlib.Core.List.{List}
-use Prim.Native.Nat.{ℕ, _+_, _*_}
+use Prim.Native.Nat.{ℕ, _*_}
 use Rattle.frame.specs.Size.{chromaWidth, chromaHeight, subX, subY}
 use Rattle.frame.specs.View.{viewed, part}
 use Rattle.frame.specs.declared.Rectangle.{Rectangle}

@@ -27,7 +27,6 @@ pub use view::View;
 ghost use mathlib.Core.Path.{_≡_};
 ghost use mathlib.Core.Bool.{cond};
 ghost use Prim.Native.Nat.{_+_, _/_};
-ghost use Rattle.frame.specs.Size.{chromaWidth, chromaHeight};
 ghost use Rattle.frame.specs.Planes.{wholeFrame, columnsOf, rowsOf, widthOf, heightOf, samplingOf};
 
 // The largest width and the largest height.

@@ -1,8 +1,8 @@
 -- What a view shows of a plane and its copy is a plane and its copy, with the noise of the view's places; and so does a rectangle of two planes, or the whole of them. Assumes nothing.
 use mathlib.Core.Path.{_≡_, refl, sym, ap, subst, _∙_}
 use mathlib.Core.List.{List}
-use Prim.Native.Nat.{ℕ, zero, suc, _+_, _-_, _*_, _/_, _%_, _≤_, _<_}
-use native.Mathlib.Nat.{le-of-eq, le-trans, lt-of-lt-of-le, not-suc-le-zero, mod-lt, div-lt-iff-lt-mul, mul-comm, add-mul, zero-mul, suc-mul, mul-le-mul-right}
+use Prim.Native.Nat.{ℕ, _+_, _-_, _*_, _/_, _%_, _≤_, _<_}
+use native.Mathlib.Nat.{le-of-eq, le-trans, lt-of-lt-of-le, mul-comm, add-mul, suc-mul, mul-le-mul-right}
 use native.Mathlib.Omega.{arith}
 use lib.Arith.{digits-lt}
 use lib.IntN.{ℤ, pos, natAbs, _-ℤ_, _*ℤ_}
@@ -13,7 +13,7 @@ use Rattle.laws.proofs.Table.{getD-tabulate}
 use Rattle.frame.specs.View.{placeAt, viewed, whole, part}
 use Rattle.frame.specs.declared.Rectangle.{Rectangle}
 use Rattle.frame.specs.declared.view.View.{View}
-use Rattle.frame.proofs.Viewed.{viewed-length, viewed-at, part-whole, viewed-whole}
+use Rattle.frame.proofs.Viewed.{viewed-length, viewed-at, row-column, part-whole, viewed-whole}
 use Rattle.noise.specs.Noise.{noise, place, pair, noiseOf}
 use Rattle.noise.specs.Lines.{noiseLimit, Places, Plane}
 use Rattle.noise.specs.Seen.{seen, noiseAt, Seen, sumOver, squared, SumsOf, CrossOf}
@@ -60,24 +60,14 @@ module _ {w h : ℕ} {source denoised : List ℕ} (P : Plane w h source denoised
   seen-whole = λ i. pair (viewed-whole w h source (P .source-size) i) (viewed-whole w h denoised (P .denoised-size) i) w h
 
 -- ---- a view of them
-some-wide : (w h i : ℕ) → i < w * h → 0 < w
-some-wide zero h i l = absurd (not-suc-le-zero (lt-of-lt-of-le l (le-of-eq (zero-mul h))))
-some-wide (suc w) h i l = omega arith
-
 module _ {v : View} {source denoised : List ℕ} (S : Seen v source denoised) where
   -- place i of what is shown, by its row and column
   module _ (i : ℕ) (l : i < v .width * v .height) where
-    wide : 0 < v .width
-    wide = some-wide (v .width) (v .height) i l
-
-    row-in : i / v .width < v .height
-    row-in = div-lt-iff-lt-mul wide .1 (lt-of-lt-of-le l (le-of-eq (mul-comm (v .width) (v .height))))
-
     here : Places sampleLimit source denoised (v .start + i / v .width * v .step) (v .stride) (v .width)
-    here = S .rows (i / v .width) row-in
+    here = S .rows (i / v .width) (row-column (v .width) (v .height) i l .0)
 
     inside : placeAt v (i / v .width) (i % v .width) < length source
-    inside = here .inside (i % v .width) (mod-lt i wide)
+    inside = here .inside (i % v .width) (row-column (v .width) (v .height) i l .1)
 
     shown : (plane : List ℕ) → getD (viewed v plane) i 0 ≡ getD plane (placeAt v (i / v .width) (i % v .width)) 0
     unfolding viewed

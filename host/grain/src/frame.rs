@@ -89,7 +89,11 @@ impl fmt::Display for Rectangle {
 
 /// A frame's size in luma samples, its depth in bits (8, 10 or 12), its format and its active rectangle, outside which
 /// there is no picture: black bars have no grain. Profiles, correlations, fits and gates of a frame are those of the frame
-/// that the rectangle cuts out; a frame is denoised as a whole.
+/// that the rectangle cuts out.
+///
+/// A frame is denoised as a whole: a result beside a bar has some of the bar in it, alike in every frame, which a gate takes
+/// for no grain. So keep the rectangle a sample away from the bars, or two where the format halves; or denoise the planes
+/// that it cuts out, each by [`crate::denoise_plane`].
 ///
 /// ```
 /// use grain::{Format, Rectangle, Shape};
