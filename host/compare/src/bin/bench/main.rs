@@ -18,7 +18,7 @@ use std::time::{Duration, Instant};
 const USAGE: &str = "\
 bench [--quick]
 
-  --quick    512 x 512 alone, and no table of growth";
+  --quick    512 x 512 alone, and no tables of rectangles and of growth";
 
 const SIZES: [Size; 3] = [(512, 512), (1920, 1080), (4096, 4096)];
 const GROWTH: [Size; 7] = [
@@ -264,10 +264,10 @@ fn main() {
             }
         }
     }
-    rectangles::table(if quick { SIZES[0] } else { SIZES[1] }, 10);
     headers::table();
     roots::table();
     if !quick {
+        rectangles::tables(10);
         growth(10);
     }
 }

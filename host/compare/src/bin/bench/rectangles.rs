@@ -7,11 +7,17 @@ use compare::{rectangles, scan};
 use grain::Rectangle;
 use std::cell::RefCell;
 
-/// The middle of a frame twice as wide and twice as high.
-fn middle((width, height): Size) -> Rectangle {
+/// A letterboxed film, the middle half of each side, and that of a frame that no cache holds: the frame, and where in it.
+const PARTS: [(Size, Rectangle); 3] = [
+    ((1920, 1080), part((0, 138), (1920, 804))),
+    ((1920, 1080), part((480, 270), (960, 540))),
+    ((4096, 4096), part((1024, 1024), (2048, 2048))),
+];
+
+const fn part((left, top): (usize, usize), (width, height): Size) -> Rectangle {
     Rectangle {
-        left: width / 2,
-        top: height / 2,
+        left,
+        top,
         width,
         height,
     }
@@ -26,24 +32,28 @@ fn keeps_to_the_rectangle(row: &Row) -> bool {
 }
 
 /// Each call on a part of a frame, beside the call on the frame that the part cuts out.
-pub fn table((w, h): Size, depth: u8) {
-    let part = middle((w, h));
-    let frame = scan::pair((2 * w, 2 * h), depth);
+pub fn tables(depth: u8) {
+    println!("\n## Rectangles, {depth} bits\n");
+    println!(
+        "Ours alone: a call with an active rectangle, and the call on the frame that it cuts out, of the same samples. \
+         Question 6 is about every sample lent, those outside the rectangle too: beside each time stands that of the same \
+         call with a rectangle of 2 × 2, which is that question and little else. The last ratio is of the times less these. \
+         It is above 1 where that question has put the rest of the frame into the cache, and where the rows of a rectangle \
+         lie apart, being narrower than the frame."
+    );
+    for (size, part) in PARTS {
+        table(size, part, depth);
+    }
+}
+
+fn table(size: Size, part: Rectangle, depth: u8) {
     let frame = RefCell::new(Input {
         active: part,
-        ..frame
+        ..scan::pair(size, depth)
     });
     let own = rectangles::cut_out(&frame.borrow()).expect("a part");
     let own = RefCell::new(own);
-    println!("\n## Rectangles, {depth} bits\n");
-    println!(
-        "Ours alone. A rectangle of {w} × {h} in the middle of a frame of {} × {}, and the frame that it cuts out, of the \
-         same samples. Question 6 is about every sample lent, those outside the rectangle too: beside each time stands \
-         that of the same call with a rectangle of 2 × 2, which is that question and little else. The last ratio is of \
-         the times less these.\n",
-        2 * w,
-        2 * h
-    );
+    println!("\n{part} in {} × {}:\n", size.0, size.1);
     println!(
         "| call | rectangle, ms | 2 × 2 in its frame, ms | cut out, ms | 2 × 2 in that, ms | ratio | less 2 × 2 |"
     );
@@ -56,7 +66,7 @@ pub fn table((w, h): Size, depth: u8) {
         let times = best(&mut [
             &mut || call(&frame, part),
             &mut || call(&frame, FEW),
-            &mut || call(&own, Rectangle::whole(w, h)),
+            &mut || call(&own, Rectangle::whole(part.width, part.height)),
             &mut || call(&own, FEW),
         ]);
         let [a, few, b, own_few] = times.map(|time| time.as_secs_f64());
