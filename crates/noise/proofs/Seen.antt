@@ -1,4 +1,4 @@
--- What a view shows of a plane and its copy is a plane and its copy, with the noise of the view's places; and so does a rectangle of two planes, or the whole of them. Assumes nothing.
+-- What a view shows of a plane and its copy is a plane and its copy, with the noise of the view's places. A rectangle of two planes is seen so, and the whole of them. Assumes nothing.
 use mathlib.Core.Path.{_≡_, refl, sym, ap, subst, _∙_}
 use mathlib.Core.List.{List}
 use Prim.Native.Nat.{ℕ, _+_, _-_, _*_, _/_, _%_, _≤_, _<_}
