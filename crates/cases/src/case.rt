@@ -2,7 +2,7 @@
 use frame::Shape;
 
 // The refusal and the answer that the Rust gave, then what it was asked. A call on numbers has them from `kind` on.
-#[derive(Drop)]
+#[derive(Clone, Copy)]
 pub struct Case {
     pub refusal: u64,
     pub answer: u64,
@@ -23,7 +23,7 @@ pub struct Case {
 }
 
 // What a call answered: its refusal, the rest as one number, and the figure of it that a worked case shows, 0 where none does.
-#[derive(Drop)]
+#[derive(Clone, Copy)]
 pub struct Answer {
     pub refusal: u32,
     pub value: u64,

@@ -4,7 +4,7 @@ ghost use Rattle.std.specs.Prelude.{◌+◌, ◌≤◌, min, length};
 use crate::case::Case;
 
 // The bytes from a place up to a stop or the end: the number that they write, where they end, and where the next ones begin.
-#[derive(Drop)]
+#[derive(Clone, Copy)]
 pub struct Word {
     pub value: u64,
     pub end: usize,

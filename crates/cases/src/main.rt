@@ -1,5 +1,7 @@
 // Writes a report: the scope's cases that are not proved about the definitions, which the standard input has, each with the figure that
 // came out; then each recorded list in data/, with how many calls it has and how many answered otherwise.
+#![tactic(auto)]
+
 mod answers;
 mod case;
 mod casts;

@@ -11,7 +11,7 @@ use libc::STDOUT_FILENO;
 pub const WORKED: u64 = 14;
 
 // How many calls a list has, and how many answered otherwise.
-#[derive(Drop)]
+#[derive(Clone, Copy)]
 pub struct Counts {
     calls: usize,
     differences: usize,

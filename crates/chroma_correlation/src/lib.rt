@@ -1,4 +1,6 @@
 // The correlation of a chroma plane's noise with luma's, as a coefficient with its mark.
+#![tactic(auto)]
+
 ghost use Rattle.std.specs.Prelude.{◌≡◌, ◌^◌, ◌≤◌, unsigned_abs};
 ghost use Rattle.float.specs.Reading.{both};
 ghost use Rattle.noise.specs.Seen.{SeenFrame};
@@ -10,7 +12,7 @@ use frame::{Geometry, Shape};
 
 // The luma tap of each chroma plane, at lag 0, with its mark.
 #[repr(C)]
-#[derive(Drop)]
+#[derive(Clone, Copy)]
 pub struct ChromaCorr {
     pub refusal: u32,
     pub cb: i32,

@@ -1,4 +1,6 @@
 // The denoised plane and the denoised frame.
+#![tactic(auto)]
+
 ghost use Rattle.std.specs.Prelude.{◌≡◌};
 ghost use Rattle.denoise.specs.Calls.{plane_outcome, planes, frame_outcome};
 

@@ -1,4 +1,6 @@
 // The auto-regressive coefficients of a frame's noise, by least squares.
+#![tactic(auto)]
+
 mod counts; // of neighbours and of sums
 mod equations; // the normal equations in f64, from exact sums
 mod coefficients; // solved and quantised
@@ -15,7 +17,7 @@ use planes::{chroma_fit, luma_fit};
 
 // A refusal's number; whether there is a fit; the coefficients, each times 64, in the order of neighbours: `count` of luma, and of chroma one more, the luma tap. The unused ones are 0. Then the mark of each.
 #[repr(C)]
-#[derive(Drop)]
+#[derive(Clone, Copy)]
 pub struct Fit {
     pub refusal: u32,
     pub found: bool,

@@ -17,7 +17,7 @@ use float::{Quantised, UNQUANTISED};
 use frame::{Geometry, View};
 
 // The coefficients of Cb and Cr.
-#[derive(Drop)]
+#[derive(Clone, Copy)]
 pub struct Chroma {
     pub cb: [Quantised; 25],
     pub cr: [Quantised; 25],

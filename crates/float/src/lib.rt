@@ -1,5 +1,7 @@
 // What the Rust takes from f64 and i32, each function equal to its definition at every argument;
 // and by these the quantiser and sigma16.
+#![tactic(auto)]
+
 mod cast;
 mod quant;
 mod root;

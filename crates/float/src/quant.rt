@@ -18,7 +18,7 @@ pub const NOT_A_NUMBER: u8 = 3;
 
 // A coefficient, and its mark.
 #[repr(C)]
-#[derive(Drop)]
+#[derive(Clone, Copy)]
 pub struct Quantised {
     pub coefficient: i32,
     pub mark: u8,

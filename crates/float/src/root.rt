@@ -13,7 +13,7 @@ const LEAD: u64 = 4503599627370496;
 
 // A root cut to a whole number; the rest, what the number under the root has above its square; and
 // how many digits were worked.
-#[derive(Drop)]
+#[derive(Clone, Copy)]
 struct Digits {
     root: u64,
     rest: u64,
@@ -55,7 +55,7 @@ fn root_digits(m: u64) -> Digits
 }
 
 // The number m * 2^s.
-#[derive(Drop)]
+#[derive(Clone, Copy)]
 struct Scaled {
     m: u64,
     s: u64,
@@ -106,7 +106,7 @@ fn even(m: u64, s: u64) -> Scaled
 
 // A root, and how many of its binary digits were worked.
 #[repr(C)]
-#[derive(Drop)]
+#[derive(Clone, Copy)]
 pub struct Root {
     pub value: f64,
     pub digits: u32,

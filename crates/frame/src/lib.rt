@@ -1,4 +1,6 @@
 // The shape of a frame, how its planes are looked at, and the questions put to a call.
+#![tactic(auto)]
+
 mod view; // how a plane is looked at
 mod active; // what a call sees of a frame
 mod questions; // each question, a yes or no
@@ -21,7 +23,7 @@ pub const SIDE_LIMIT: usize = 4096;
 
 // A part of a frame, in luma samples.
 #[repr(C)]
-#[derive(Drop)]
+#[derive(Clone, Copy)]
 pub struct Rectangle {
     pub left: usize,
     pub top: usize,
@@ -31,7 +33,7 @@ pub struct Rectangle {
 
 // A frame's size in luma samples, its depth in bits, its format: 0 monochrome, 1 4:2:0, 2 4:2:2, 3 4:4:4; and the active rectangle, outside which there is no picture.
 #[repr(C)]
-#[derive(Drop)]
+#[derive(Clone, Copy)]
 pub struct Shape {
     pub width: usize,
     pub height: usize,

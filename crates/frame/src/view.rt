@@ -3,7 +3,7 @@ ghost use Rattle.std.specs.Prelude.{◌≡◌};
 ghost use Rattle.frame.specs.View.{whole};
 
 // Row r begins at start + r × step, and column c stands c × stride further on.
-#[derive(Drop)]
+#[derive(Clone, Copy)]
 pub struct View {
     pub start: usize,
     pub step: usize,
@@ -28,21 +28,21 @@ impl View {
 }
 
 // Luma, or one of the two chroma planes, which are of one size.
-#[derive(Drop)]
+#[derive(Clone, Copy)]
 pub enum Component {
     Y,
     CbCr,
 }
 
 // How many luma samples make a chroma sample: 1 where the format halves the columns, and the rows, else 0.
-#[derive(Drop)]
+#[derive(Clone, Copy)]
 pub struct Sampling {
     pub across: usize,
     pub down: usize,
 }
 
 // What a call sees of a frame: of luma, and of either chroma plane.
-#[derive(Drop)]
+#[derive(Clone, Copy)]
 pub struct Geometry {
     pub luma: View,
     pub chroma: View,

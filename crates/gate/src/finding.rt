@@ -9,7 +9,7 @@ use crate::sums;
 use frame::View;
 
 // What a gate finds: the first test that fails, or that all passed.
-#[derive(Drop)]
+#[derive(Clone, Copy)]
 pub enum Finding {
     LowSigma,
     EmptyPlane,

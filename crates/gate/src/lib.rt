@@ -1,4 +1,6 @@
 // Row correlation, and the gates of luma and of chroma.
+#![tactic(auto)]
+
 mod finding;
 mod row_correlation;
 mod sums;
@@ -10,7 +12,7 @@ use finding::Finding;
 use frame::{Component, Shape, View};
 
 // What the row correlation answers: the number of a refusal, or an f64 from -1 to 1.
-#[derive(Drop)]
+#[derive(Clone, Copy)]
 pub enum Rho {
     Refused(u32),
     Value(f64),
@@ -18,7 +20,7 @@ pub enum Rho {
 
 // What a gate answers.
 #[repr(C)]
-#[derive(Drop)]
+#[derive(Clone, Copy)]
 pub struct Gate {
     pub refusal: u32,
     pub yes: bool,

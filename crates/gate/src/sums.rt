@@ -7,7 +7,7 @@ ghost use Rattle.gate.specs.FrameSums.{FirstSumsOf, SecondSumsOf};
 use frame::View;
 
 // Of a noise n: Σ (n >> shift)², Σ n² and Σ n(r, c) × n(r, c + lag).
-#[derive(Drop)]
+#[derive(Clone, Copy)]
 pub struct FirstSums {
     pub squares: u64,
     pub energy: f64,
@@ -15,7 +15,7 @@ pub struct FirstSums {
 }
 
 // Of two noises n₀ and n₁: Σ n₁² and Σ n₀ × n₁.
-#[derive(Drop)]
+#[derive(Clone, Copy)]
 pub struct SecondSums {
     pub second: f64,
     pub cross: f64,

@@ -8,7 +8,7 @@ use random::{Draw, RandomRegister};
 
 // `Draw` as a record.
 #[repr(C)]
-#[derive(Drop)]
+#[derive(Clone, Copy)]
 pub struct DrawRecord {
     pub refusal: u32,
     pub value: u32,
@@ -16,7 +16,7 @@ pub struct DrawRecord {
 
 // A draw, and the register after it.
 #[repr(C)]
-#[derive(Drop)]
+#[derive(Clone, Copy)]
 pub struct StepRecord {
     pub refusal: u32,
     pub value: u32,

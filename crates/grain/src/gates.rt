@@ -8,7 +8,7 @@ use gate::{Gate, Rho};
 
 // `Rho` as a record.
 #[repr(C)]
-#[derive(Drop)]
+#[derive(Clone, Copy)]
 pub struct RhoRecord {
     pub refusal: u32,
     pub value: f64,

@@ -4,7 +4,7 @@ ghost use Rattle.header.specs.Bits.{digits};
 ghost use Rattle.header.specs.Held.{Held, Ready, Put};
 
 // How many bytes are in the destination; how many bits, fewer than eight, are not yet, and the number that they say.
-#[derive(Drop)]
+#[derive(Clone, Copy)]
 pub struct Cursor {
     pub at: usize,
     pub count: usize,

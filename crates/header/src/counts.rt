@@ -8,7 +8,7 @@ ghost use Rattle.header.specs.Text.{counts_of};
 use crate::stored::Fields;
 
 // Whether the parameters themselves are coded, whether chroma's points are, and how many points and coefficients each plane has in the header.
-#[derive(Drop)]
+#[derive(Clone, Copy)]
 pub struct Counts {
     pub coded: bool,
     pub chroma: bool,

@@ -1,4 +1,6 @@
 // The film grain part of a frame header, 5.9.30, written.
+#![tactic(auto)]
+
 mod stored; // a record where it stands in memory
 mod counts; // how many places of each list the syntax has
 mod limits; // question 10, field by field
@@ -18,7 +20,7 @@ use writer::put_header;
 
 // A refusal's number, and how many bits were written.
 #[repr(C)]
-#[derive(Drop)]
+#[derive(Clone, Copy)]
 pub struct Written {
     pub refusal: u32,
     pub bits: usize,

@@ -17,7 +17,7 @@ pub const CB_COEFFS: usize = 104;
 pub const CR_COEFFS: usize = 129;
 
 // The fields of a record but its lists and `predicted`.
-#[derive(Drop)]
+#[derive(Clone, Copy)]
 pub struct Fields {
     pub apply_grain: bool,
     pub grain_seed: u16,

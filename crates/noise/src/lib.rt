@@ -1,4 +1,6 @@
 // Lines of noise and of luma averages, and sums of products of two lines.
+#![tactic(auto)]
+
 mod average;
 mod blocks;
 mod line;

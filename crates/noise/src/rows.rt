@@ -11,7 +11,7 @@ use crate::line::{blank_line, noise_line};
 use frame::View;
 
 // Of two noises n₀ and n₁: Σ n₁² and Σ n₀ × n₁.
-#[derive(Drop)]
+#[derive(Clone, Copy)]
 pub struct PairSums {
     pub second: i64,
     pub cross: i64,

@@ -12,7 +12,7 @@ use crate::line::{blank_line, noise_line, shifted_line};
 use frame::View;
 
 // Of a noise n: Σ (n >> shift)², Σ n² and Σ n × the noise `lag` columns on.
-#[derive(Drop)]
+#[derive(Clone, Copy)]
 pub struct PlaneSums {
     pub squares: i64,
     pub energy: i64,

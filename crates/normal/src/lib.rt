@@ -1,4 +1,6 @@
 // The exact normal equations of a fit: sums of noise products over its window.
+#![tactic(auto)]
+
 mod blocks;
 mod neighbours;
 mod rows;

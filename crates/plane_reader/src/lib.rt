@@ -1,4 +1,6 @@
 // A reader of a plane: its rows, its columns and its samples, which are lent. The functions over it are thin and proved by hand; what they answer is worked out by covered code, which takes the slice and the numbers.
+#![tactic(auto)]
+
 ghost use Rattle.std.specs.Prelude.{◌≡◌, ◌<◌};
 ghost use Rattle.denoise.specs.Calls.{plane_outcome};
 ghost use Rattle.profile.specs.Answers.{sigma_answer};
@@ -6,7 +8,7 @@ ghost use Rattle.plane_reader.specs.Read.{held_at, sample_of};
 
 use profile::Sigma;
 
-#[derive(Drop)]
+#[derive(Clone, Copy)]
 pub struct PlaneReader<'a> {
     pub rows: usize,
     pub cols: usize,
@@ -14,7 +16,7 @@ pub struct PlaneReader<'a> {
 }
 
 // What a read answers: the number of a refusal, nothing where the plane is empty, or the sample.
-#[derive(Drop)]
+#[derive(Clone, Copy)]
 pub enum Sample {
     Refused(u32),
     Nothing,

@@ -1,10 +1,12 @@
 // The neighbours that a fit takes, in coefficient order.
+#![tactic(auto)]
+
 ghost use Rattle.std.specs.Prelude.{◌≡◌, ◌≤◌, pos, ◌-ℤ◌};
 ghost use Rattle.positions.specs.Positions.{refused, positions_of};
 
 // A refusal's number; how many neighbours there are, and the row and the column of each, counted from the sample. Unused places are zero.
 #[repr(C)]
-#[derive(Drop)]
+#[derive(Clone, Copy)]
 pub struct Positions {
     pub refusal: u32,
     pub count: usize,

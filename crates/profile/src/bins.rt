@@ -10,14 +10,14 @@ ghost use Rattle.profile.specs.Runs.{Run, Tables, Added, RunAdded};
 use crate::lines::bin_line;
 
 // The bins between which all of a part lie.
-#[derive(Drop)]
+#[derive(Clone, Copy)]
 pub struct Range {
     pub least: u16,
     pub greatest: u16,
 }
 
 // What a part has in one bin.
-#[derive(Drop)]
+#[derive(Clone, Copy)]
 pub struct Bin {
     pub count: u64,
     pub squares: u64,

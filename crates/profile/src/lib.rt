@@ -1,4 +1,6 @@
 // The noise of a plane and of a frame, as sigma16: for a plane, and for bins of its samples.
+#![tactic(auto)]
+
 mod lines; // the lines of a part: shifted noise, and bins
 mod bins; // the bins of a part
 mod profiles; // the profile of a plane
@@ -10,14 +12,14 @@ pub use estimate::noise_estimate;
 pub use planes::plane_sigma16;
 
 #[repr(C)]
-#[derive(Drop)]
+#[derive(Clone, Copy)]
 pub struct Sigma {
     pub refusal: u32,
     pub sigma16: u64,
 }
 
 #[repr(C)]
-#[derive(Drop)]
+#[derive(Clone, Copy)]
 pub struct LumaProfile {
     pub sigma16: u64,
     pub bin_sigma16: [u64; 8],
@@ -26,7 +28,7 @@ pub struct LumaProfile {
 }
 
 #[repr(C)]
-#[derive(Drop)]
+#[derive(Clone, Copy)]
 pub struct ChromaProfile {
     pub sigma16: u64,
     pub bin_sigma16: [u64; 4],
@@ -35,7 +37,7 @@ pub struct ChromaProfile {
 }
 
 #[repr(C)]
-#[derive(Drop)]
+#[derive(Clone, Copy)]
 pub struct NoiseEstimate {
     pub refusal: u32,
     pub luma: LumaProfile,

@@ -10,7 +10,7 @@ use crate::bins::line_squares;
 use crate::lines::blank_line;
 
 // Whether the samples of a plane or a part are low, and where they are, the sum of the squares of its shifted noise.
-#[derive(Drop)]
+#[derive(Clone, Copy)]
 pub struct LowSquares {
     pub low: bool,
     pub sum: u64,

@@ -1,4 +1,6 @@
 // The seed of a frame's grain, and the random register that grain is drawn from.
+#![tactic(auto)]
+
 mod register;
 mod seed;
 

@@ -3,20 +3,20 @@ ghost use Rattle.std.specs.Prelude.{◌≡◌};
 ghost use Rattle.random.specs.Register.{step};
 
 #[repr(C)]
-#[derive(Drop)]
+#[derive(Clone, Copy)]
 pub struct RandomRegister {
     pub state: u16,
 }
 
 // What a register answers: the number of a refusal, or the bits drawn.
-#[derive(Drop)]
+#[derive(Clone, Copy)]
 pub enum Draw {
     Refused(u32),
     Value(u32),
 }
 
 // A draw, with the register after it.
-#[derive(Drop)]
+#[derive(Clone, Copy)]
 pub struct Stepped {
     pub draw: Draw,
     pub register: RandomRegister,

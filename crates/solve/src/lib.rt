@@ -1,4 +1,6 @@
 // The normal equations of a fit, solved by Gaussian elimination with partial pivoting.
+#![tactic(auto)]
+
 ghost use Rattle.std.specs.Prelude.{◌≡◌, [], ◌<◌, ◌≤◌};
 ghost use Rattle.std.specs.Float.{nan};
 ghost use Rattle.solve.specs.Elimination.{value, less, pivot_of, swapped, cleared, unknown_of, substituted};
@@ -7,7 +9,7 @@ ghost use Rattle.solve.specs.Rows.{entry_less, factor_of, less_row};
 
 // A count with 25 values; the unused ones are plus zero.
 #[repr(C)]
-#[derive(Drop)]
+#[derive(Clone, Copy)]
 pub struct Solution {
     pub order: usize,
     pub values: [f64; 25],
@@ -15,7 +17,7 @@ pub struct Solution {
 
 // A refusal's number; whether there is a solution, and the solution.
 #[repr(C)]
-#[derive(Drop)]
+#[derive(Clone, Copy)]
 pub struct Solved {
     pub refusal: u32,
     pub found: bool,

@@ -49,35 +49,35 @@ more : (n : ℕ) (k : ℕ) → k ≤ n → k ≡ min n k
 more n k h = omega arith
 
 -- what both calls say, where the sign of x and the two sides of 2 ^ 31 part
-from-calls : (c : tie.After-as-u64) (s : Bool) → lt c.before.before.args.x plus_zero ≡ s → side 31 s c.as-u64.result ≡ to_signed 31 c.before.before.args.x
-from-calls c s t = known c.before.before.args.x c.before.magnitude.result s c.as-u64.result t c.before.magnitude.ensures c.as-u64.ensures
+from-calls : (c : tie.After-as_u64-n) (s : Bool) → lt c.args.x plus_zero ≡ s → side 31 s c.as_u64-n.result ≡ to_signed 31 c.args.x
+from-calls c s t = known c.args.x c.magnitude.result s c.as_u64-n.result t c.magnitude.ensures c.as_u64-n.ensures
 
-returns : tie.Need-returns
+returns : tie.Need-returns-then-n-lt2147483648
 returns c =
-    let n = c.before.before.as-u64.result in
-    to_z-of_z w32 _ (negation-fits n c.if2.true) ∙ negated n c.if2.true ∙ ap (λ (w : ℕ). neg_ℤ (pos w)) (less n (2 ^ 31) (omega arith))
-    ∙ from-calls c.before.before true c.before.if1.true
+    let n = c.as_u64-n.result in
+    to_z-of_z w32 _ (negation-fits n c.if-n-lt2147483648.true) ∙ negated n c.if-n-lt2147483648.true ∙ ap (λ (w : ℕ). neg_ℤ (pos w)) (less n (2 ^ 31) (omega arith))
+    ∙ from-calls c.before.before true c.if-x.true
 
-returns-2 : tie.Need-returns-2
+returns-2 : tie.Need-returns-then-x
 returns-2 c =
-    ap (λ (w : ℕ). neg_ℤ (pos w)) (more c.before.before.as-u64.result (2 ^ 31) c.if2.false) ∙ from-calls c.before.before true c.before.if1.true
+    ap (λ (w : ℕ). neg_ℤ (pos w)) (more c.as_u64-n.result (2 ^ 31) c.if-n-lt2147483648.false) ∙ from-calls c.before.before true c.if-x.true
 
-returns-3 : tie.Need-returns-3
+returns-3 : tie.Need-returns-then-n-lt2147483648-2
 returns-3 c =
-    let n = c.before.before.as-u64.result in
-    to_z_pos w32 n c.if3.true ∙ ap pos (less n (2 ^ 31 - 1) (omega arith)) ∙ from-calls c.before.before false c.before.if1.false
+    let n = c.as_u64-n.result in
+    to_z_pos w32 n c.if-n-lt2147483648-2.true ∙ ap pos (less n (2 ^ 31 - 1) (omega arith)) ∙ from-calls c.before.before false c.if-x.false
 
-returns-4 : tie.Need-returns-4
-returns-4 c = ap pos (more c.before.before.as-u64.result (2 ^ 31 - 1) (omega arith)) ∙ from-calls c.before.before false c.before.if1.false
+returns-4 : tie.Need-returns
+returns-4 c = ap pos (more c.as_u64-n.result (2 ^ 31 - 1) (omega arith)) ∙ from-calls c.before.before false c.if-x.false
 
-pub as-i32-spec : {M : Type 1} → statement M
-as-i32-spec =
+pub as_i32_spec : {M : Type 1} → statement M
+as_i32_spec =
     tie.close
     (tie.spec
     (λ c κs. search rules)
     (λ c κs. search rules)
     (λ c. search rules)
-    (λ c. negation-fits c.before.before.as-u64.result c.if2.true)
+    (λ c. negation-fits c.as_u64-n.result c.if-n-lt2147483648.true)
     returns
     returns-2
     (λ c. search rules)

@@ -24,17 +24,17 @@ to-bottom (inf false) a = absurd (subst T a tt)
 to-bottom (fin true m e) a = refl
 to-bottom (fin false m e) a = absurd (omega (arith, ltb-false 0 (1 * down e + m * up e * 1) a, down_pos e))
 
-truncating-f64-to-u64-requires : tie.Need-truncating-f64-to-u64-requires
+truncating-f64-to-u64-requires : tie.Need-truncating_f64_to_u64-requires
 unfolding of_bits neg
-truncating-f64-to-u64-requires c κs = (subst T (sym c.before.if1.true) tt, subst T (sym c.if2.true) tt)
+truncating-f64-to-u64-requires c κs = (subst T (sym c.if-x.true) tt, subst T (sym c.if-x-2.true) tt)
 
-returns-2 : tie.Need-returns-2
+returns-2 : tie.Need-returns-then-x
 unfolding of_bits neg
-returns-2 c = from-top c.before.before.args.x c.before.if1.true c.if2.false
+returns-2 c = from-top c.args.x c.if-x.true c.if-x-2.false
 
-returns-3 : tie.Need-returns-3
+returns-3 : tie.Need-returns
 unfolding of_bits neg
-returns-3 c = to-bottom c.before.args.x c.if1.false
+returns-3 c = to-bottom c.args.x c.if-x.false
 
-pub as-u64-spec : {M : Type 1} → statement M
-as-u64-spec = tie.close (tie.spec truncating-f64-to-u64-requires (λ c. search rules) returns-2 returns-3)
+pub as_u64_spec : {M : Type 1} → statement M
+as_u64_spec = tie.close (tie.spec truncating-f64-to-u64-requires (λ c. search rules) returns-2 returns-3)

@@ -22,25 +22,25 @@ inside : (x l h : ℤ) → lt_z x l ≡ false → lt_z h x ≡ false → x ≡ c
 unfolding clamp_of
 inside x l h e d = rw (e, d)
 
-returns : tie.Need-returns
+returns : tie.Need-returns-then-x-low
 returns c =
     let a = c.before in
     to_z-of_z w32 a.args.low a.ranges.low
-    ∙ at_low a.args.x a.args.low a.args.high (tested a.args.x a.args.low true a.ranges.x a.ranges.low c.if1.true)
+    ∙ at_low a.args.x a.args.low a.args.high (tested a.args.x a.args.low true a.ranges.x a.ranges.low c.if-x-low.true)
 
-returns-2 : tie.Need-returns-2
+returns-2 : tie.Need-returns-then-high-x
 returns-2 c =
     let a = c.before.before in
     to_z-of_z w32 a.args.high a.ranges.high
-    ∙ at_high a.args.x a.args.low a.args.high (tested a.args.x a.args.low false a.ranges.x a.ranges.low c.before.if1.false)
-    (tested a.args.high a.args.x true a.ranges.high a.ranges.x c.if2.true)
+    ∙ at_high a.args.x a.args.low a.args.high (tested a.args.x a.args.low false a.ranges.x a.ranges.low c.if-x-low.false)
+    (tested a.args.high a.args.x true a.ranges.high a.ranges.x c.if-high-x.true)
 
-returns-3 : tie.Need-returns-3
+returns-3 : tie.Need-returns
 returns-3 c =
     let a = c.before.before in
     to_z-of_z w32 a.args.x a.ranges.x
-    ∙ inside a.args.x a.args.low a.args.high (tested a.args.x a.args.low false a.ranges.x a.ranges.low c.before.if1.false)
-    (tested a.args.high a.args.x false a.ranges.high a.ranges.x c.if2.false)
+    ∙ inside a.args.x a.args.low a.args.high (tested a.args.x a.args.low false a.ranges.x a.ranges.low c.if-x-low.false)
+    (tested a.args.high a.args.x false a.ranges.high a.ranges.x c.if-high-x.false)
 
 pub clamp_spec : {M : Type 1} → statement M
 clamp_spec = tie.close (tie.spec returns returns-2 returns-3)

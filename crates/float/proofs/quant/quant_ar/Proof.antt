@@ -9,17 +9,17 @@ use Rattle.float.specs.Steps.{quant_ar}
 use Rattle.float.proofs.quant.quant_ar.Statement.{statement}
 use Rattle.float.proofs.quant.quant_ar.Tie as tie
 
-mark-of-requires : tie.Need-mark-of-requires
+mark-of-requires : tie.Need-mark_of-requires
 mark-of-requires c κs =
-    to_z-of_z w32 _ (record { sfits = c.before.as-i32.type-inv })
-    ∙ c.before.as-i32.ensures
-    ∙ ap (to_signed 31) (c.before.before.round.ensures ∙ ap (λ (x : Float). round_half_away (mul binary64 c.before.before.before.args.c x)) sixty-four-bits)
+    to_z-of_z w32 _ (record { sfits = c.as_i32-whole.type_inv })
+    ∙ c.as_i32-whole.ensures
+    ∙ ap (to_signed 31) (c.round.ensures ∙ ap (λ (x : Float). round_half_away (mul binary64 c.args.c x)) sixty-four-bits)
 
 returns : tie.Need-returns
 unfolding quant_ar
 returns c =
-    let k = to_z-of_z w32 c.before.clamp.result (record { sfits = c.before.clamp.type-inv }) ∙ c.before.clamp.ensures ∙ ap (λ (z : ℤ). clamp_of z (neg_ℤ (pos 128)) (pos 127)) (mark-of-requires c.before tt) in
+    let k = to_z-of_z w32 c.clamp.result (record { sfits = c.clamp.type_inv }) ∙ c.clamp.ensures ∙ ap (λ (z : ℤ). clamp_of z (neg_ℤ (pos 128)) (pos 127)) (mark-of-requires c.before tt) in
     λ i. record { coefficient = k i; mark = c.mark_of.ensures i }
 
-pub quant-ar-spec : {M : Type 1} → statement M
-quant-ar-spec = tie.close (tie.spec (λ c κs. search rules) (λ c κs. search rules) (λ c κs. search rules) mark-of-requires returns)
+pub quant_ar_spec : {M : Type 1} → statement M
+quant_ar_spec = tie.close (tie.spec (λ c κs. search rules) (λ c κs. search rules) (λ c κs. search rules) mark-of-requires returns)

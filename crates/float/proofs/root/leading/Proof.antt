@@ -24,20 +24,20 @@ shifted-more m n h p s l = record {
 back : (m n h : ℕ) → Shifted m n h → n * 2 ^ (1074 - h) ≡ m * 2 ^ 1074
 back m n h s = ap (λ (x : ℕ). x * 2 ^ (1074 - h)) s.value ∙ moved m h 1074 (omega arith)
 
-abbrev invariant-loop : tie.invariant-loop
+abbrev invariant-loop : tie.invariant-loop-n
 invariant-loop m n₀ h₀ n h = Shifted m n h
 
-abbrev decreases-loop : tie.decreases-loop
+abbrev decreases-loop : tie.decreases-loop-n
 decreases-loop m n₀ h₀ n h = 2 ^ 53 - n
 
-loop-holds : tie.Need-loop-init invariant-loop decreases-loop
+loop-holds : tie.Need-loop-n-init invariant-loop decreases-loop
 loop-holds c = record { value = sym (mul-one c.args.m); n_pos = c.requires.0; n-lt = omega arith; h_le = omega arith }
 
-loop-again : tie.Need-loop-preserved invariant-loop decreases-loop
-loop-again c = shifted-more c.before.before.args.m c.before.loop.n c.before.loop.h c.before.before.requires.0 c.before.loop.invariant c.loop-test.true
+loop-again : tie.Need-loop-n-preserved invariant-loop decreases-loop
+loop-again c = shifted-more c.args.m c.loop-n.n c.loop-n.h c.requires.0 c.loop-n.invariant c.loop-n-test.true
 
 returns : tie.Need-returns invariant-loop decreases-loop
-returns c = (back c.before.before.args.m c.before.loop.n c.before.loop.h c.before.loop.invariant, record { lead = omega arith; few = omega arith; low = omega arith; high = omega arith })
+returns c = (back c.args.m c.loop-n.n c.loop-n.h c.loop-n.invariant, record { lead = omega arith; few = omega arith; low = omega arith; high = omega arith })
 
-pub leading-spec : {M : Type 1} → statement M
-leading-spec = tie.close (tie.spec invariant-loop decreases-loop loop-holds (λ c. omega arith) (λ c. omega arith) (λ c. omega arith) loop-again (λ c. omega arith) returns)
+pub leading_spec : {M : Type 1} → statement M
+leading_spec = tie.close (tie.spec invariant-loop decreases-loop loop-holds (λ c. omega arith) (λ c. omega arith) (λ c. omega arith) loop-again (λ c. omega arith) returns)

@@ -4,7 +4,7 @@ use Rattle.float.proofs.root.sqrt.Statement.{statement}
 use Rattle.float.proofs.root.sqrt.Tie as tie
 
 returns : tie.Need-returns
-returns c = ap (λ r. r.value) c.sqrt-digits.ensures
+returns c = ap (λ r. r.value) c.sqrt_digits-r.ensures
 
-pub sqrt-spec : {M : Type 1} → statement M
-sqrt-spec = tie.close (tie.spec (λ c κs. search rules) returns)
+pub sqrt_spec : {M : Type 1} → statement M
+sqrt_spec = tie.close (tie.spec (λ c κs. search rules) returns)

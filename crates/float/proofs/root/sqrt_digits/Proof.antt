@@ -39,27 +39,27 @@ no-root (fin s zero e) a n = cc
 no-root (fin true (suc m) e) a n = refl
 no-root (fin false (suc m) e) a n = absurd (omega (arith, ltb-false 0 (suc m) a))
 
-positive-root-requires : tie.Need-positive-root-requires
+positive-root-requires : tie.Need-positive_root-requires
 unfolding of_bits div
-positive-root-requires c κs = finite c.before.before.args.x (sym (zero-lt c.before.before.args.x) ∙ c.before.if1.true) c.if2.true
+positive-root-requires c κs = finite c.args.x (sym (zero-lt c.args.x) ∙ c.if-x.true) c.if-x-2.true
 
-returns-2 : tie.Need-returns-2
+returns-2 : tie.Need-returns-then-x
 unfolding of_bits div
 returns-2 c =
     let b = c.before.before in
-    c.unworked.ensures ∙ infinite b.before.args.x (sym (zero-lt b.before.args.x) ∙ b.if1.true) c.before.if2.false
+    c.unworked.ensures ∙ infinite b.args.x (sym (zero-lt b.args.x) ∙ b.if-x.true) c.if-x-2.false
 
-returns-3 : tie.Need-returns-3
+returns-3 : tie.Need-returns-then-x-3
 returns-3 c =
-    let x = c.before.before.before.args.x in
-    c.unworked2.ensures ∙ at_zero x (sym (eq-zero x) ∙ c.before.if3.true)
+    let x = c.args.x in
+    c.unworked-then-x-3.ensures ∙ at_zero x (sym (eq-zero x) ∙ c.if-x-3.true)
 
-returns-4 : tie.Need-returns-4
+returns-4 : tie.Need-returns
 unfolding of_bits div
 returns-4 c =
     let b = c.before.before in
-    let x = b.before.args.x in
-    c.unworked3.ensures ∙ no-root x (sym (zero-lt x) ∙ b.if1.false) (sym (eq-zero x) ∙ c.before.if3.false)
+    let x = b.args.x in
+    c.unworked-2.ensures ∙ no-root x (sym (zero-lt x) ∙ b.if-x.false) (sym (eq-zero x) ∙ c.if-x-3.false)
 
-pub sqrt-digits-spec : {M : Type 1} → statement M
-sqrt-digits-spec = tie.close (tie.spec positive-root-requires (λ c. search rules) (λ c κs. search rules) returns-2 (λ c κs. search rules) returns-3 (λ c κs. search rules) returns-4)
+pub sqrt_digits_spec : {M : Type 1} → statement M
+sqrt_digits_spec = tie.close (tie.spec positive-root-requires (λ c. search rules) (λ c κs. search rules) returns-2 (λ c κs. search rules) returns-3 (λ c κs. search rules) returns-4)

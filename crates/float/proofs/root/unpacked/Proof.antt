@@ -15,7 +15,7 @@ number (inf s) p = tt
 number (fin s m e) p = tt
 
 known : (c : tie.Start) → Pattern c.args.x
-known c = pattern c.args.x (subst T (sym c.well-formed.0.1) tt) c.requires
+known c = pattern c.args.x (subst T (sym c.well_formed.0.1) tt) c.requires
 
 -- ---- the fields
 module _ (x : Float) (p : Pattern x) where
@@ -36,28 +36,28 @@ module _ (x : Float) (p : Pattern x) where
       → HasValue x false ((to_bits binary64 x % 2 ^ 52 + 2 ^ 52) * 2 ^ (to_bits binary64 x / 2 ^ 52 + 1073)) (2 ^ 1074 * 2 ^ 1074)
   high_value h = rw ((high-field h).0, (high-field h).1) (scaled-up x p)
 
-float-to-bits-b : tie.Need-float-to-bits-b
+float-to-bits-b : tie.Need-float_to_bits-b
 float-to-bits-b c = number c.args.x c.requires
 
 leading-requires : tie.Need-leading-requires
-leading-requires c κs = let p = known c.before in omega (arith, (low_field c.before.args.x p c.if1.true).1, p.some)
+leading-requires c κs = let p = known c.before in omega (arith, (low_field c.args.x p c.if-e-eq0.true).1, p.some)
 
-returns : tie.Need-returns
+returns : tie.Need-returns-then-e-eq0
 returns c =
-    let x = c.before.before.args.x in (
-      subst (λ (a : ℕ). HasValue x false a (2 ^ 1074 * 2 ^ 1074)) (sym c.leading.ensures.0) (low_value x (known c.before.before) c.before.if1.true),
+    let x = c.args.x in (
+      subst (λ (a : ℕ). HasValue x false a (2 ^ 1074 * 2 ^ 1074)) (sym c.leading.ensures.0) (low_value x (known c.before.before) c.if-e-eq0.true),
       c.leading.ensures.1,
     )
 
-add-t7 : tie.Need-overflow-add-t7
-add-t7 c = let p = known c.before in omega (arith, (high-field c.before.args.x p c.if1.false).1, p.top)
+add-t7 : tie.Need-overflow_add-result-2
+add-t7 c = let p = known c.before in omega (arith, (high-field c.args.x p c.if-e-eq0.false).1, p.top)
 
-returns-2 : tie.Need-returns-2
+returns-2 : tie.Need-returns
 returns-2 c =
-    let x = c.before.args.x in
+    let x = c.args.x in
     let p = known c.before in
-    let f = high-field x p c.if1.false in
-    (high_value x p c.if1.false, record { lead = omega arith; few = omega (arith, f.0, p.few); low = omega (arith, f.1); high = omega (arith, f.1, p.top) })
+    let f = high-field x p c.if-e-eq0.false in
+    (high_value x p c.if-e-eq0.false, record { lead = omega arith; few = omega (arith, f.0, p.few); low = omega (arith, f.1); high = omega (arith, f.1, p.top) })
 
-pub unpacked-spec : {M : Type 1} → statement M
-unpacked-spec = tie.close (tie.spec float-to-bits-b leading-requires returns (λ c. search rules) add-t7 returns-2)
+pub unpacked_spec : {M : Type 1} → statement M
+unpacked_spec = tie.close (tie.spec float-to-bits-b leading-requires returns (λ c. search rules) add-t7 returns-2)

@@ -56,25 +56,25 @@ whole-already (fin false m (pos k)) t a l = whole-stays (fin false m (pos k)) fa
 whole-already (fin false m (negsuc k)) t a l =
     absurd (omega (arith, ltb-false (m * 1 * 1) (2 ^ 52 * 2 ^ suc k) l, (fit false m (negsuc k) t).few, pow-suc 2 k, pow_pos k))
 
-at : (c : tie.Then1) → Doubled c.before.args.x (to_unsigned 64 (mul binary64 c.before.args.x (fin false 1 (pos 1))))
+at : (c : tie.Then-x) → Doubled c.args.x (to_unsigned 64 (mul binary64 c.args.x (fin false 1 (pos 1))))
 unfolding of_bits
-at c = doubled c.before.args.x (subst T (sym c.before.well-formed.0.1) tt) c.before.requires c.if1.true
+at c = doubled c.args.x (subst T (sym c.well_formed.0.1) tt) c.requires c.if-x.true
 
-add-k : tie.Need-overflow-add-k
+add-k : tie.Need-overflow_add-k
 unfolding of_bits
-add-k c = omega (arith, (at c.before).0, c.as-u64.ensures)
+add-k c = omega (arith, (at c.before).0, c.as_u64.ensures)
 
-int-to-float-result : tie.Need-int-to-float-result
+int-to-float-result : tie.Need-int_to_float-result
 unfolding of_bits in_float
-int-to-float-result c = le→leb ((c.before.as-u64.result + 1) / 2) (2 ^ 53) (omega (arith, (at c.before.before).0, c.before.as-u64.ensures))
+int-to-float-result c = le→leb ((c.as_u64.result + 1) / 2) (2 ^ 53) (omega (arith, (at c.before.before).0, c.as_u64.ensures))
 
-returns : tie.Need-returns
+returns : tie.Need-returns-then-x
 unfolding of_bits
-returns c = ap (λ (u : ℕ). of_int binary64 (pos ((u + 1) / 2))) c.before.as-u64.ensures ∙ (at c.before.before).1
+returns c = ap (λ (u : ℕ). of_int binary64 (pos ((u + 1) / 2))) c.as_u64.ensures ∙ (at c.before.before).1
 
-returns-2 : tie.Need-returns-2
+returns-2 : tie.Need-returns
 unfolding of_bits
-returns-2 c = whole-already c.before.args.x (subst T (sym c.before.well-formed.0.1) tt) c.before.requires c.if1.false
+returns-2 c = whole-already c.args.x (subst T (sym c.well_formed.0.1) tt) c.requires c.if-x.false
 
-pub half-up-spec : {M : Type 1} → statement M
-half-up-spec = tie.close (tie.spec (λ c κs. search rules) add-k int-to-float-result returns returns-2)
+pub half_up_spec : {M : Type 1} → statement M
+half_up_spec = tie.close (tie.spec (λ c κs. search rules) add-k int-to-float-result returns returns-2)

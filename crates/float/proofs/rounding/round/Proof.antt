@@ -53,21 +53,21 @@ neither (fin s zero e) t a b = whole-stays (fin s zero e) s 0 t (refl, simp zero
 neither (fin true (suc m) e) t a b = absurd (omega (arith, ltb-false 0 (suc m) b))
 neither (fin false (suc m) e) t a b = absurd (omega (arith, ltb-false 0 (suc m) a))
 
-half-up-requires : tie.Need-half-up-requires
-half-up-requires c κs = subst T (sym (sym (zero-lt c.before.args.x) ∙ c.if1.true)) tt
+half-up-requires : tie.Need-half_up-requires
+half-up-requires c κs = subst T (sym (sym (zero-lt c.args.x) ∙ c.if-x.true)) tt
 
-half-up-requires-2 : tie.Need-half-up-requires-2
+half-up-requires-2 : tie.Need-half_up-requires-then-x-2
 half-up-requires-2 c κs =
-    let x = c.before.before.args.x in
-    subst T (sym (above-neg x ∙ sym (lt-zero x) ∙ c.if2.true)) tt
+    let x = c.args.x in
+    subst T (sym (above-neg x ∙ sym (lt-zero x) ∙ c.if-x-2.true)) tt
 
-returns-2 : tie.Need-returns-2
-returns-2 c = ap neg c.half-up2.ensures ∙ away-neg c.before.before.before.args.x
+returns-2 : tie.Need-returns-then-x-2
+returns-2 c = ap neg c.half_up-then-x-2.ensures ∙ away-neg c.args.x
 
-returns-3 : tie.Need-returns-3
+returns-3 : tie.Need-returns
 returns-3 c =
-    let x = c.before.before.args.x in
-    neither x (subst T (sym c.before.before.well-formed.0.1) tt) (sym (zero-lt x) ∙ c.before.if1.false) (sym (lt-zero x) ∙ c.if2.false)
+    let x = c.args.x in
+    neither x (subst T (sym c.well_formed.0.1) tt) (sym (zero-lt x) ∙ c.if-x.false) (sym (lt-zero x) ∙ c.if-x-2.false)
 
-pub round-spec : {M : Type 1} → statement M
-round-spec = tie.close (tie.spec half-up-requires (λ c. search rules) half-up-requires-2 returns-2 returns-3)
+pub round_spec : {M : Type 1} → statement M
+round_spec = tie.close (tie.spec half-up-requires (λ c. search rules) half-up-requires-2 returns-2 returns-3)

@@ -18,21 +18,21 @@ some : (sq count : ℕ) (a b z x : Float) → (count ≡ 0 → ⊥) → a ≡ of
 unfolding sigma16_of deviation16
 some sq count a b z x n ea eb ez ex = rw (ne_eqb count 0 n, ez, ea, eb, ex)
 
-returns : tie.Need-returns
-returns c = none c.before.args.sq c.before.args.count c.if1.true
+returns : tie.Need-returns-then-count-eq0
+returns c = none c.args.sq c.args.count c.if-count-eq0.true
 
-returns-2 : tie.Need-returns-2
+returns-2 : tie.Need-returns
 returns-2 c =
     let s = c.before.before in
     let b = c.before.before.before in
     let a = c.before.before.before.before in
-    let x = c.before.before.before.before.before.before.args in
-    c.as-u64.ensures ∙ ap (to_unsigned 64) c.before.round.ensures
-    ∙ some x.sq x.count a.nearest-u64-to-f64.result b.nearest-u64-to-f642.result s.sqrt.result _
-    c.before.before.before.before.before.if1.false a.nearest-u64-to-f64.ensures b.nearest-u64-to-f642.ensures s.sqrt.ensures sixteen-bits
+    let x = c.args in
+    c.as_u64.ensures ∙ ap (to_unsigned 64) c.round.ensures
+    ∙ some x.sq x.count a.nearest_u64_to_f64-a.result b.nearest_u64_to_f64-b.result s.sqrt.result _
+    c.if-count-eq0.false a.nearest_u64_to_f64-a.ensures b.nearest_u64_to_f64-b.ensures s.sqrt.ensures sixteen-bits
 
-pub sigma16-spec : {M : Type 1} → statement M
-sigma16-spec =
+pub sigma16_spec : {M : Type 1} → statement M
+sigma16_spec =
     tie.close
     (tie.spec
     returns

@@ -32,14 +32,14 @@ beyond (fin false m e) h k = refl
 beyond (fin true zero e) h k = cc
 beyond (fin true (suc m) e) h k = absurd (omega (arith, ltb-false 0 (suc m) h))
 
-returns : tie.Need-returns
-returns c = below c.before.args.x (sym (lt-zero _) ∙ c.if1.true)
+returns : tie.Need-returns-then-x
+returns c = below c.args.x (sym (lt-zero _) ∙ c.if-x.true)
 
-returns-2 : tie.Need-returns-2
-returns-2 c = at_zero _ c.before.before.well-formed.0.1 (sym (eq-zero _) ∙ c.if2.true)
+returns-2 : tie.Need-returns-then-x-2
+returns-2 c = at_zero _ c.well_formed.0.1 (sym (eq-zero _) ∙ c.if-x-2.true)
 
-returns-3 : tie.Need-returns-3
-returns-3 c = beyond _ (sym (lt-zero _) ∙ c.before.if1.false) (sym (eq-zero _) ∙ c.if2.false)
+returns-3 : tie.Need-returns
+returns-3 c = beyond _ (sym (lt-zero _) ∙ c.if-x.false) (sym (eq-zero _) ∙ c.if-x-2.false)
 
-pub magnitude-spec : {M : Type 1} → statement M
-magnitude-spec = tie.close (tie.spec returns returns-2 returns-3)
+pub magnitude_spec : {M : Type 1} → statement M
+magnitude_spec = tie.close (tie.spec returns returns-2 returns-3)

@@ -4,9 +4,9 @@ use borrow.Author.Rules.{rules}
 use Rattle.frame.proofs.Shape.rows_of.Statement.{statement}
 use Rattle.frame.proofs.Shape.rows_of.Tie as tie
 
-returns-2 : tie.Need-returns-2
+returns-2 : tie.Need-returns-in-CbCr
 unfolding chroma_height
-returns-2 c = rw c.before.before.before.enum-told2.given.1 c.chroma-side.ensures
+returns-2 c = rw c.in-CbCr.is c.chroma_side.ensures
 
-pub rows-of-spec : {M : Type 1} → statement M
-rows-of-spec = tie.close (tie.spec (λ c. search rules) (λ c. search rules) (λ c κs. search rules) (λ c. search rules) returns-2)
+pub rows_of_spec : {M : Type 1} → statement M
+rows_of_spec = tie.close (tie.spec (λ c. search rules) (λ c. search rules) (λ c κs. search rules) (λ c. search rules) returns-2)

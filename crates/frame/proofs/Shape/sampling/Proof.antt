@@ -4,7 +4,7 @@ use Rattle.frame.proofs.Shape.sampling.Statement.{statement}
 use Rattle.frame.proofs.Shape.sampling.Tie as tie
 
 returns : tie.Need-returns
-returns c = λ i. record { across = c.before.before.bit.ensures i; down = c.bit2.ensures i }
+returns c = λ i. record { across = c.bit-across.ensures i; down = c.bit-down.ensures i }
 
-pub sampling-spec : {M : Type 1} → statement M
-sampling-spec = tie.close (tie.spec (λ c κs. search rules) (λ c κs. search rules) returns)
+pub sampling_spec : {M : Type 1} → statement M
+sampling_spec = tie.close (tie.spec (λ c κs. search rules) (λ c κs. search rules) returns)

@@ -4,7 +4,7 @@ use Rattle.frame.proofs.active.geometry_of.Statement.{statement}
 use Rattle.frame.proofs.active.geometry_of.Tie as tie
 
 returns : tie.Need-returns
-returns c = λ i. record { luma = c.before.before.view_of.ensures i; chroma = c.before.view-of2.ensures i; sampling = c.sampling.ensures i }
+returns c = λ i. record { luma = c.view_of-luma.ensures i; chroma = c.view_of-chroma.ensures i; sampling = c.sampling-sampling.ensures i }
 
-pub geometry-of-spec : {M : Type 1} → statement M
-geometry-of-spec = tie.close (tie.spec (λ c κs. search rules) (λ c κs. search rules) (λ c κs. search rules) returns)
+pub geometry_of_spec : {M : Type 1} → statement M
+geometry_of_spec = tie.close (tie.spec (λ c κs. search rules) (λ c κs. search rules) (λ c κs. search rules) returns)

@@ -20,29 +20,29 @@ limits c =
     let k = c.args.component in
     (columns-le format k c.requires.wide, rows-le format k (before a.top a.height c.requires.down c.requires.high), columns-le format k (before a.left a.width c.requires.across c.requires.wide))
 
-mul-t6 : tie.Need-overflow-mul-t6
+mul-t6 : tie.Need-overflow_mul-result
 mul-t6 c =
     let l = limits c.before.before.before in
-    rw (c.rows_of.ensures, c.before.before.width_of_lem.ensures) (area-fits l.1 l.0)
+    rw (c.rows_of-top.ensures, c.width_of-step.ensures) (area-fits l.1 l.0)
 
-add-t7 : tie.Need-overflow-add-t7
+add-t7 : tie.Need-overflow_add-result
 add-t7 c =
     let l = limits c.before.before.before in
-    rw (c.rows_of.ensures, c.before.before.width_of_lem.ensures, c.before.columns_of.ensures) (start_fits l.0 l.1 l.2)
+    rw (c.rows_of-top.ensures, c.width_of-step.ensures, c.columns_of-left.ensures) (start_fits l.0 l.1 l.2)
 
 returns : tie.Need-returns
 returns c =
     let f = c.before.before in
     λ i. record {
-      start = f.rows_of.ensures i * f.before.before.width_of_lem.ensures i + f.before.columns_of.ensures i;
-      step = f.before.before.width_of_lem.ensures i;
+      start = f.rows_of-top.ensures i * f.width_of-step.ensures i + f.columns_of-left.ensures i;
+      step = f.width_of-step.ensures i;
       stride = 1;
-      width = c.before.columns-of2.ensures i;
-      height = c.rows-of2.ensures i;
+      width = c.columns_of.ensures i;
+      height = c.rows_of.ensures i;
     }
 
-pub view-of-spec : {M : Type 1} → statement M
-view-of-spec =
+pub view_of_spec : {M : Type 1} → statement M
+view_of_spec =
     tie.close
     (tie.spec
     (λ c κs. search rules)

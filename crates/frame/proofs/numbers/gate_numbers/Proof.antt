@@ -10,27 +10,27 @@ use borrow.Author.Rules.{rules}
 use Rattle.frame.proofs.numbers.gate_numbers.Statement.{statement}
 use Rattle.frame.proofs.numbers.gate_numbers.Tie as tie
 
-returns : tie.Need-returns
+returns : tie.Need-returns-then-n-ne0
 unfolding gate_numbers shape_numbers
 returns c =
-    let a = c.before.before.args in
-    stopped (shape_numbers a.s) refl c.before.shape-numbers.ensures
-    (filled (width_of a.s a.component) (height_of a.s a.component) (a.a ∷ a.b ∷ a.c ∷ a.d ∷ []) ∷ []) c.if1.true
+    let a = c.args in
+    stopped (shape_numbers a.s) refl c.shape_numbers-n.ensures
+    (filled (width_of a.s a.component) (height_of a.s a.component) (a.a ∷ a.b ∷ a.c ∷ a.d ∷ []) ∷ []) c.if-n-ne0.true
 
 -- past the questions about the shape
-known : (k : tie.Else1) → Known k.before.before.args.s
-known k = is_known k.before.before.args.s (sym k.before.shape-numbers.ensures ∙ k.if1.false)
+known : (k : tie.Else-n-ne0) → Known k.args.s
+known k = is_known k.args.s (sym k.shape_numbers-n.ensures ∙ k.if-n-ne0.false)
 
-returns-2 : tie.Need-returns-2
+returns-2 : tie.Need-returns
 unfolding gate_numbers shape_numbers
 returns-2 c =
-    let a = c.before.before.before.before.before.args in
-    asked (shape_numbers a.s) refl c.before.before.before.before.shape-numbers.ensures
+    let a = c.args in
+    asked (shape_numbers a.s) refl c.shape_numbers-n.ensures
     (filled (width_of a.s a.component) (height_of a.s a.component) (a.a ∷ a.b ∷ a.c ∷ a.d ∷ [])) c.ask.ensures
-    (rw c.before.before.samples.ensures at c.before.four_are.ensures)
+    (rw c.samples.ensures at c.four_are.ensures)
 
-pub gate-numbers-spec : {M : Type 1} → statement M
-gate-numbers-spec =
+pub gate_numbers_spec : {M : Type 1} → statement M
+gate_numbers_spec =
     tie.close
     (tie.spec
     (λ c κs. search rules)

@@ -11,37 +11,37 @@ use Rattle.frame.proofs.numbers.pair_numbers.Statement.{statement}
 use Rattle.frame.proofs.numbers.pair_numbers.Tie as tie
 
 -- the number after the questions of size and depth
-abbrev first : tie.After-ask2 → List Question
-first k = let a = k.before.before.before.before.args in small a.width a.height ∷ depth_known a.depth ∷ []
+abbrev first : tie.After-ask-n-2 → List Question
+first k = let a = k.args in small a.width a.height ∷ depth_known a.depth ∷ []
 
-sized : (k : tie.After-ask2) → k.ask2.result ≡ first_no (first k)
+sized : (k : tie.After-ask-n-2) → k.ask-n-2.result ≡ first_no (first k)
 sized k =
-    let a = k.before.before.before.before.args in
+    let a = k.args in
     let q = small a.width a.height in
-    let e = asked [] refl refl q k.before.before.ask.ensures k.before.before.before.is-small.ensures in
-    asked (q ∷ []) refl e (depth_known a.depth) k.ask2.ensures k.before.depth-known.ensures
+    let e = asked [] refl refl q k.ask-n.ensures k.is_small.ensures in
+    asked (q ∷ []) refl e (depth_known a.depth) k.ask-n-2.ensures k.depth_known.ensures
 
-returns : tie.Need-returns
+returns : tie.Need-returns-then-n-ne0
 unfolding pair_numbers
 returns c =
-    let a = c.before.before.before.before.before.args in
-    stopped (first c.before) refl (sized c.before) (filled a.width a.height (a.src ∷ a.den ∷ []) ∷ []) c.if1.true
+    let a = c.args in
+    stopped (first c.before) refl (sized c.before) (filled a.width a.height (a.src ∷ a.den ∷ []) ∷ []) c.if-n-ne0.true
 
-mul-both-are : tie.Need-overflow-mul-both-are
+mul-both-are : tie.Need-overflow_mul-width
 mul-both-are c =
-    let a = c.before.before.before.before.before.args in
-    let g = is-small a.width a.height (passed (first c.before) refl (sym (sized c.before) ∙ c.if1.false)).0 in
+    let a = c.args in
+    let g = is-small a.width a.height (passed (first c.before) refl (sym (sized c.before) ∙ c.if-n-ne0.false)).0 in
     area-fits g.wide g.high
 
-returns-2 : tie.Need-returns-2
+returns-2 : tie.Need-returns
 unfolding pair_numbers
 returns-2 c =
-    let a = c.before.before.before.before.before.before.before.args in
+    let a = c.args in
     asked (first c.before.before.before) refl (sized c.before.before.before)
-    (filled a.width a.height (a.src ∷ a.den ∷ [])) c.ask3.ensures c.before.both-are.ensures
+    (filled a.width a.height (a.src ∷ a.den ∷ [])) c.ask.ensures c.both_are.ensures
 
-pub pair-numbers-spec : {M : Type 1} → statement M
-pair-numbers-spec =
+pub pair_numbers_spec : {M : Type 1} → statement M
+pair_numbers_spec =
     tie.close
     (tie.spec
     (λ c κs. search rules)

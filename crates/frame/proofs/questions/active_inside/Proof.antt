@@ -5,7 +5,7 @@ use Rattle.frame.proofs.questions.active_inside.Statement.{statement}
 use Rattle.frame.proofs.questions.active_inside.Tie as tie
 
 returns : tie.Need-returns
-returns c = and_is c.before.before.is-part.ensures c.is-part2.ensures
+returns c = and_is c.is_part-across.ensures c.is_part-down.ensures
 
-pub active-inside-spec : {M : Type 1} → statement M
-active-inside-spec = tie.close (tie.spec (λ c κs. search rules) (λ c κs. search rules) returns)
+pub active_inside_spec : {M : Type 1} → statement M
+active_inside_spec = tie.close (tie.spec (λ c κs. search rules) (λ c κs. search rules) returns)

@@ -5,11 +5,11 @@ use borrow.Author.Rules.{rules}
 use Rattle.frame.proofs.questions.ask.Statement.{statement}
 use Rattle.frame.proofs.questions.ask.Tie as tie
 
-returns : tie.Need-returns
-returns c = sym (refused _ _ _ c.if1.true)
+returns : tie.Need-returns-then-earlier-ne0
+returns c = sym (refused _ _ _ c.if-earlier-ne0.true)
 
-returns-3 : tie.Need-returns-3
+returns-3 : tie.Need-returns
 returns-3 c = search rules
 
-pub ask-spec : {M : Type 1} → statement M
-ask-spec = tie.close (tie.spec returns (λ c. search rules) returns-3)
+pub ask_spec : {M : Type 1} → statement M
+ask_spec = tie.close (tie.spec returns (λ c. search rules) returns-3)

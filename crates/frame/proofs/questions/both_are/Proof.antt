@@ -8,5 +8,5 @@ returns : tie.Need-returns
 unfolding each
 returns c = simp and-true
 
-pub both-are-spec : {M : Type 1} → statement M
-both-are-spec = tie.close (tie.spec returns)
+pub both_are_spec : {M : Type 1} → statement M
+both_are_spec = tie.close (tie.spec returns)

@@ -7,7 +7,7 @@ use Rattle.frame.proofs.questions.both_low.Tie as tie
 
 returns : tie.Need-returns
 unfolding all_low
-returns c = rw (c.before.samples-low.ensures, c.samples-low2.ensures, and-true)
+returns c = rw (c.samples_low.ensures, c.samples_low-2.ensures, and-true)
 
-pub both-low-spec : {M : Type 1} → statement M
-both-low-spec = tie.close (tie.spec (λ c κs. search rules) (λ c κs. search rules) returns)
+pub both_low_spec : {M : Type 1} → statement M
+both_low_spec = tie.close (tie.spec (λ c κs. search rules) (λ c κs. search rules) returns)

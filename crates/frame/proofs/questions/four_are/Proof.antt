@@ -6,7 +6,7 @@ use Rattle.frame.proofs.questions.four_are.Tie as tie
 
 returns : tie.Need-returns
 unfolding each
-returns c = rw c.both-are.ensures
+returns c = rw c.both_are.ensures
 
-pub four-are-spec : {M : Type 1} → statement M
-four-are-spec = tie.close (tie.spec (λ c κs. search rules) returns)
+pub four_are_spec : {M : Type 1} → statement M
+four_are_spec = tie.close (tie.spec (λ c κs. search rules) returns)

@@ -7,7 +7,7 @@ use Rattle.frame.proofs.questions.four_low.Tie as tie
 
 returns : tie.Need-returns
 unfolding all_low
-returns c = and_is c.before.samples-low.ensures c.frame-low.ensures
+returns c = and_is c.samples_low.ensures c.frame_low.ensures
 
-pub four-low-spec : {M : Type 1} → statement M
-four-low-spec = tie.close (tie.spec (λ c κs. search rules) (λ c κs. search rules) returns)
+pub four_low_spec : {M : Type 1} → statement M
+four_low_spec = tie.close (tie.spec (λ c κs. search rules) (λ c κs. search rules) returns)

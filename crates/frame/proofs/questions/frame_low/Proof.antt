@@ -7,7 +7,7 @@ use Rattle.frame.proofs.questions.frame_low.Tie as tie
 
 returns : tie.Need-returns
 unfolding all_low
-returns c = and_is c.before.samples-low.ensures c.both-low.ensures
+returns c = and_is c.samples_low.ensures c.both_low.ensures
 
-pub frame-low-spec : {M : Type 1} → statement M
-frame-low-spec = tie.close (tie.spec (λ c κs. search rules) (λ c κs. search rules) returns)
+pub frame_low_spec : {M : Type 1} → statement M
+frame_low_spec = tie.close (tie.spec (λ c κs. search rules) (λ c κs. search rules) returns)

@@ -20,31 +20,31 @@ module _ (halved : Bool) (start size side : ℕ) where
     inside : size ≤ side → start ≤ side - size → {b : Bool} → halved ≡ b → cond b (eqb (start % 2) 0) true ≡ is_part halved start size side
     inside k l e = rw (e, le-leb 1 size some, le-leb (start + size) side (omega arith))
 
-returns : tie.Need-returns
-returns c = let a = c.before.args in empty a.halved a.start a.size a.side c.if1.true
+returns : tie.Need-returns-then-size-lt1
+returns c = let a = c.args in empty a.halved a.start a.size a.side c.if-size-lt1.true
 
-returns-2 : tie.Need-returns-2
+returns-2 : tie.Need-returns-then-side-size
 returns-2 c =
-    let a = c.before.before.args in
-    let l : a.side < a.size = c.if2.true in
-    leaves a.halved a.start a.size a.side c.before.if1.false (omega arith)
+    let a = c.args in
+    let l : a.side < a.size = c.if-side-size.true in
+    leaves a.halved a.start a.size a.side c.if-size-lt1.false (omega arith)
 
-returns-3 : tie.Need-returns-3
+returns-3 : tie.Need-returns-then-side-size-2
 returns-3 c =
-    let a = c.before.before.before.args in
-    let k : a.size ≤ a.side = c.before.if2.false in
-    let l : a.side - a.size < a.start = c.if3.true in
-    leaves a.halved a.start a.size a.side c.before.before.if1.false (omega arith)
+    let a = c.args in
+    let k : a.size ≤ a.side = c.if-side-size.false in
+    let l : a.side - a.size < a.start = c.if-side-size-2.true in
+    leaves a.halved a.start a.size a.side c.if-size-lt1.false (omega arith)
 
-returns-4 : tie.Need-returns-4
+returns-4 : tie.Need-returns-then-halved
 returns-4 c =
-    let a = c.before.before.before.before.args in
-    inside a.halved a.start a.size a.side c.before.before.before.if1.false c.before.before.if2.false c.before.if3.false c.if4.true
+    let a = c.args in
+    inside a.halved a.start a.size a.side c.if-size-lt1.false c.if-side-size.false c.if-side-size-2.false c.if-halved.true
 
-returns-5 : tie.Need-returns-5
+returns-5 : tie.Need-returns
 returns-5 c =
-    let a = c.before.before.before.before.args in
-    inside a.halved a.start a.size a.side c.before.before.before.if1.false c.before.before.if2.false c.before.if3.false c.if4.false
+    let a = c.args in
+    inside a.halved a.start a.size a.side c.if-size-lt1.false c.if-side-size.false c.if-side-size-2.false c.if-halved.false
 
-pub is-part-spec : {M : Type 1} → statement M
-is-part-spec = tie.close (tie.spec returns returns-2 returns-3 returns-4 returns-5)
+pub is_part_spec : {M : Type 1} → statement M
+is_part_spec = tie.close (tie.spec returns returns-2 returns-3 returns-4 returns-5)

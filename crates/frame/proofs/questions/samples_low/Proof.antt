@@ -8,55 +8,55 @@ use Rattle.frame.proofs.Gathered.{Range, range-more, Quarters, quarters-none, qu
 use Rattle.frame.proofs.questions.samples_low.Statement.{statement}
 use Rattle.frame.proofs.questions.samples_low.Tie as tie
 
-abbrev invariant-loop : tie.invariant-loop
+abbrev invariant-loop : tie.invariant-loop-i
 invariant-loop plane depth quarter bits₀ i₀ bits i = (quarter ≡ length plane / 4) × (i ≤ quarter) × Gathered depth plane (Quarters depth plane quarter i) bits
 
-abbrev decreases-loop : tie.decreases-loop
+abbrev decreases-loop : tie.decreases-loop-i
 decreases-loop plane depth quarter bits₀ i₀ bits i = quarter - i
 
-abbrev invariant-loop2 : tie.invariant-loop2
+abbrev invariant-loop2 : tie.invariant-loop-i-2
 invariant-loop2 plane depth quarter bits₀ i₀ i-end bits i = (i ≤ length plane) × (i-end ≡ length plane) × Gathered depth plane (Range depth plane 0 i) bits
 
-abbrev decreases-loop2 : tie.decreases-loop2
+abbrev decreases-loop2 : tie.decreases-loop-i-2
 decreases-loop2 plane depth quarter bits₀ i₀ i-end bits i = length plane - i
 
-loop-holds : tie.Need-loop-init invariant-loop decreases-loop invariant-loop2 decreases-loop2
+loop-holds : tie.Need-loop-i-init invariant-loop decreases-loop invariant-loop2 decreases-loop2
 loop-holds c = (refl, omega arith, gathered_none c.args.depth c.args.plane.now (quarters-none c.args.depth c.args.plane.now _))
 
-loop-again : tie.Need-loop-preserved invariant-loop decreases-loop invariant-loop2 decreases-loop2
+loop-again : tie.Need-loop-i-preserved invariant-loop decreases-loop invariant-loop2 decreases-loop2
 loop-again c =
-    let H = c.before.before.before.before.before.loop in
-    let a = c.before.before.before.before.before.before.args in
-    (refl, search rules, gathered-quarters a.depth a.plane.now _ H.i (λ k. (c.shared-slice-known4.given k).fits) H.invariant.2)
+    let H = c.loop-i in
+    let a = c.args in
+    (refl, search rules, gathered-quarters a.depth a.plane.now _ H.i (λ k. (c.shared_slice_known-in-loop-i-3-1.given k).fits) H.invariant.2)
 
-loop2-holds : tie.Need-loop2-init invariant-loop decreases-loop invariant-loop2 decreases-loop2
+loop2-holds : tie.Need-loop-i-2-init invariant-loop decreases-loop invariant-loop2 decreases-loop2
 loop2-holds c =
-    let a = c.before.before.args in
-    let H = c.before.loop in
+    let a = c.args in
+    let H = c.loop-i in
     (omega arith, refl, gathered-as a.depth a.plane.now (quarters-all a.depth a.plane.now _ H.i (omega arith)) H.invariant.2)
 
-loop2-again : tie.Need-loop2-preserved invariant-loop decreases-loop invariant-loop2 decreases-loop2
+loop2-again : tie.Need-loop-i-2-preserved invariant-loop decreases-loop invariant-loop2 decreases-loop2
 loop2-again c =
-    let a = c.before.before.before.before.before.args in
-    let H = c.before.before.loop2 in
-    (search rules, H.invariant.1, gathered-more a.depth a.plane.now H.i (c.shared-slice-known5.given H.i).fits H.invariant.2 (range-more a.depth a.plane.now 0 H.i (H.i + 1) (omega arith)))
+    let a = c.args in
+    let H = c.loop-i-2 in
+    (search rules, H.invariant.1, gathered-more a.depth a.plane.now H.i (c.shared_slice_known-in-loop-i-2-2-1.given H.i).fits H.invariant.2 (range-more a.depth a.plane.now 0 H.i (H.i + 1) (omega arith)))
 
-returns : tie.Need-returns invariant-loop decreases-loop invariant-loop2 decreases-loop2
+returns : tie.Need-returns-then-depth-ge16 invariant-loop decreases-loop invariant-loop2 decreases-loop2
 returns c =
-    let a = c.before.before.before.before.before.args in
-    let H = c.before.before.loop2 in
+    let a = c.args in
+    let H = c.loop-i-2 in
     let e : H.i ≡ length a.plane.now = omega arith in
-    gathered-any a.depth a.plane.now (rw e at H.invariant.2) c.if1.true
+    gathered-any a.depth a.plane.now (rw e at H.invariant.2) c.if-depth-ge16.true
 
-returns-2 : tie.Need-returns-2 invariant-loop decreases-loop invariant-loop2 decreases-loop2
+returns-2 : tie.Need-returns invariant-loop decreases-loop invariant-loop2 decreases-loop2
 returns-2 c =
-    let a = c.before.before.before.before.before.args in
-    let H = c.before.before.loop2 in
+    let a = c.args in
+    let H = c.loop-i-2 in
     let e : H.i ≡ length a.plane.now = omega arith in
     gathered-shifted a.depth a.plane.now H.bits (rw e at H.invariant.2)
 
-pub samples-low-spec : {M : Type 1} → statement M
-samples-low-spec =
+pub samples_low_spec : {M : Type 1} → statement M
+samples_low_spec =
     tie.close
     (tie.spec
     invariant-loop

@@ -9,26 +9,26 @@ use borrow.Author.Rules.{rules}
 use Rattle.frame.proofs.refusals.denoise_frame_refusal.Statement.{statement}
 use Rattle.frame.proofs.refusals.denoise_frame_refusal.Tie as tie
 
-returns : tie.Need-returns
+returns : tie.Need-returns-then-n-ne0
 unfolding denoise_frame_refusal frame_numbers shape_numbers
 returns c =
-    let a = c.before.before.before.before.before.args in
+    let a = c.args in
     let luma = length a.y.now ∷ a.yout ∷ [] in
     let chroma = length a.cb.now ∷ length a.cr.now ∷ a.cbout ∷ a.crout ∷ [] in
     let source = a.y.now ∷ a.cb.now ∷ a.cr.now ∷ [] in
-    stopped (frame_numbers a.s luma chroma) refl c.before.frame-numbers.ensures
-    (samples_low a.s.depth (source) ∷ []) c.if1.true
+    stopped (frame_numbers a.s luma chroma) refl c.frame_numbers-n.ensures
+    (samples_low a.s.depth (source) ∷ []) c.if-n-ne0.true
 
-returns-2 : tie.Need-returns-2
+returns-2 : tie.Need-returns
 unfolding denoise_frame_refusal frame_numbers shape_numbers
 returns-2 c =
-    let a = c.before.before.before.before.before.before.before.args in
+    let a = c.args in
     let luma = length a.y.now ∷ a.yout ∷ [] in
     let chroma = length a.cb.now ∷ length a.cr.now ∷ a.cbout ∷ a.crout ∷ [] in
     let source = a.y.now ∷ a.cb.now ∷ a.cr.now ∷ [] in
-    asked (frame_numbers a.s luma chroma) refl c.before.before.before.frame-numbers.ensures
-    (samples_low a.s.depth (source)) c.ask.ensures c.before.frame-low.ensures
+    asked (frame_numbers a.s luma chroma) refl c.frame_numbers-n.ensures
+    (samples_low a.s.depth (source)) c.ask.ensures c.frame_low.ensures
 
-pub denoise-frame-refusal-spec : {M : Type 1} → statement M
-denoise-frame-refusal-spec =
+pub denoise_frame_refusal_spec : {M : Type 1} → statement M
+denoise_frame_refusal_spec =
     tie.close (tie.spec (λ c κs. search rules) returns (λ c κs. search rules) (λ c κs. search rules) returns-2)

@@ -8,19 +8,19 @@ use borrow.Author.Rules.{rules}
 use Rattle.frame.proofs.refusals.fit_refusal.Statement.{statement}
 use Rattle.frame.proofs.refusals.fit_refusal.Tie as tie
 
-returns : tie.Need-returns
+returns : tie.Need-returns-then-n-ne0
 unfolding fit_refusal frame_refusal copy_questions frame_numbers shape_numbers
 returns c =
-    let a = c.before.before.before.before.before.before.before.before.args in
+    let a = c.args in
     let qs = copy_questions a.s a.y.now a.cb.now a.cr.now a.yden.now a.cbden.now a.crden.now in
-    stopped qs refl c.before.frame-refusal.ensures (lag_known a.lag ∷ []) c.if1.true
+    stopped qs refl c.frame_refusal-n.ensures (lag_known a.lag ∷ []) c.if-n-ne0.true
 
-returns-2 : tie.Need-returns-2
+returns-2 : tie.Need-returns
 unfolding fit_refusal frame_refusal copy_questions frame_numbers shape_numbers
 returns-2 c =
-    let a = c.before.before.before.before.before.before.before.before.before.args in
+    let a = c.args in
     let qs = copy_questions a.s a.y.now a.cb.now a.cr.now a.yden.now a.cbden.now a.crden.now in
-    continued qs refl c.before.before.frame-refusal.ensures (lag_known a.lag ∷ []) c.before.if1.false c.lag-refusal.ensures
+    continued qs refl c.frame_refusal-n.ensures (lag_known a.lag ∷ []) c.if-n-ne0.false c.lag_refusal.ensures
 
-pub fit-refusal-spec : {M : Type 1} → statement M
-fit-refusal-spec = tie.close (tie.spec (λ c κs. search rules) returns (λ c κs. search rules) returns-2)
+pub fit_refusal_spec : {M : Type 1} → statement M
+fit_refusal_spec = tie.close (tie.spec (λ c κs. search rules) returns (λ c κs. search rules) returns-2)

@@ -9,23 +9,23 @@ use borrow.Author.Rules.{rules}
 use Rattle.frame.proofs.refusals.gate_refusal.Statement.{statement}
 use Rattle.frame.proofs.refusals.gate_refusal.Tie as tie
 
-returns : tie.Need-returns
+returns : tie.Need-returns-then-n-ne0
 unfolding gate_refusal gate_numbers shape_numbers
 returns c =
-    let a = c.before.before.before.before.before.before.args in
+    let a = c.args in
     let planes = a.a.now ∷ a.b.now ∷ a.c.now ∷ a.d.now ∷ [] in
-    stopped (gate_numbers a.s a.component (map length planes)) refl c.before.gate-numbers.ensures
-    (samples_low a.s.depth (planes) ∷ []) c.if1.true
+    stopped (gate_numbers a.s a.component (map length planes)) refl c.gate_numbers-n.ensures
+    (samples_low a.s.depth (planes) ∷ []) c.if-n-ne0.true
 
-returns-2 : tie.Need-returns-2
+returns-2 : tie.Need-returns
 unfolding gate_refusal gate_numbers shape_numbers
 returns-2 c =
-    let a = c.before.before.before.before.before.before.before.before.args in
+    let a = c.args in
     let planes = a.a.now ∷ a.b.now ∷ a.c.now ∷ a.d.now ∷ [] in
-    asked (gate_numbers a.s a.component (map length planes)) refl c.before.before.before.gate-numbers.ensures
-    (samples_low a.s.depth (planes)) c.ask.ensures c.before.four_low.ensures
+    asked (gate_numbers a.s a.component (map length planes)) refl c.gate_numbers-n.ensures
+    (samples_low a.s.depth (planes)) c.ask.ensures c.four_low.ensures
 
-pub gate-refusal-spec : {M : Type 1} → statement M
-gate-refusal-spec =
+pub gate_refusal_spec : {M : Type 1} → statement M
+gate_refusal_spec =
     tie.close
     (tie.spec (λ c κs. search rules) returns (λ c κs. search rules) (λ c κs. search rules) returns-2)
