@@ -17,43 +17,36 @@ lent c = planes c.args.y.now c.args.cb.now c.args.cr.now
 abbrev held : tie.Start → Frame
 held c = planes c.args.yout.now c.args.cbout.now c.args.crout.now
 
-returns : tie.Need-returns
+returns : tie.Need-returns-then-refusal-ne0
 returns c =
-    let S = c.before.before.before.before.before.before.before.before in
-    frame_refused S.args.s (lent S) (held S) _ c.before.denoise-frame-refusal.ensures c.if1.true
+    frame_refused c.args.s (lent c.before.before.before.before.before.before.before.before) (held c.before.before.before.before.before.before.before.before) _ c.denoise_frame_refusal-refusal.ensures c.if-refusal-ne0.true
 
 -- past the questions
-known : (c : tie.Else1) → let A = c.before.before.before.before.before.before.before.before.args in
+known : (c : tie.Else-refusal-ne0) → let A = c.args in
     DenoiseFrameCall A.s A.y.now A.cb.now A.cr.now (length A.yout.now) (length A.cbout.now) (length A.crout.now)
-known c = denoise-frame-call _ _ _ _ _ _ _ (sym c.before.denoise-frame-refusal.ensures ∙ c.if1.false)
+known c = denoise-frame-call _ _ _ _ _ _ _ (sym c.denoise_frame_refusal-refusal.ensures ∙ c.if-refusal-ne0.false)
 
-smooth-plane-requires : tie.Need-smooth-plane-requires
+smooth-plane-requires : tie.Need-smooth_plane-requires
 smooth-plane-requires c κs = let k = known c.before.before.before in (k.shape.size.wide, k.source.y.samples, k.to-y)
 
-smooth-plane-requires-2 : tie.Need-smooth-plane-requires-2
+smooth-plane-requires-2 : tie.Need-smooth_plane-requires-2
 smooth-plane-requires-2 c κs =
-    let H = c.before.before.before.before.before in
-    let k = known H.before.before in
-    rw (H.before.width_of_lem.ensures, H.height-of.ensures) (le_trans (chroma-width-le _ _) k.shape.size.wide, k.source.cb.samples, k.to-cb)
+    let k = known c.before.before.before.before.before.before.before in
+    rw (c.width_of-width.ensures, c.height_of-height.ensures) (le_trans (chroma-width-le _ _) k.shape.size.wide, k.source.cb.samples, k.to-cb)
 
-smooth-plane-requires-3 : tie.Need-smooth-plane-requires-3
+smooth-plane-requires-3 : tie.Need-smooth_plane-requires-3
 smooth-plane-requires-3 c κs =
-    let H = c.before.before.before.before.before.before.before.before.before in
-    let k = known H.before.before in
-    rw (H.before.width_of_lem.ensures, H.height-of.ensures) (le_trans (chroma-width-le _ _) k.shape.size.wide, k.source.cr.samples, k.to-cr)
+    let k = known c.before.before.before.before.before.before.before.before.before.before.before in
+    rw (c.width_of-width.ensures, c.height_of-height.ensures) (le_trans (chroma-width-le _ _) k.shape.size.wide, k.source.cr.samples, k.to-cr)
 
-returns-2 : tie.Need-returns-2
+returns-2 : tie.Need-returns
 unfolding denoised_frame
 returns-2 c =
-    let D = c.before.before in
-    let H = D.before.before.before.before.before.before.before.before.before.before in
-    let E = H.before.before in
-    let S = E.before.before.before.before.before.before.before.before in
-    rw (D.before.before.before.before.before.before.before.before.smooth-plane.ensures, D.before.before.before.before.smooth-plane2.ensures, D.smooth-plane3.ensures, H.before.width_of_lem.ensures, H.height-of.ensures)
-    (frame-accepted S.args.s (lent S) (held S) _ E.before.denoise-frame-refusal.ensures E.if1.false)
+    rw (c.smooth_plane.ensures, c.smooth_plane-2.ensures, c.smooth_plane-3.ensures, c.width_of-width.ensures, c.height_of-height.ensures)
+    (frame-accepted c.args.s (lent c.before.before.before.before.before.before.before.before.before.before.before.before.before.before.before.before.before.before.before.before.before.before) (held c.before.before.before.before.before.before.before.before.before.before.before.before.before.before.before.before.before.before.before.before.before.before) _ c.denoise_frame_refusal-refusal.ensures c.if-refusal-ne0.false)
 
-pub denoise-frame-spec : {M : Type 1} → statement M
-denoise-frame-spec =
+pub denoise_frame_spec : {M : Type 1} → statement M
+denoise_frame_spec =
     tie.close
     (tie.spec
     (λ c κs. search rules)

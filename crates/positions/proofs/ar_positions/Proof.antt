@@ -14,40 +14,40 @@ use Rattle.positions.proofs.Answers.{Filling, filling-turn, filling-ends}
 use Rattle.positions.proofs.ar_positions.Statement.{statement}
 use Rattle.positions.proofs.ar_positions.Tie as tie
 
-abbrev invariant-loop : tie.invariant-loop
+abbrev invariant-loop : tie.invariant-loop-i
 invariant-loop lag refusal rows₀ columns₀ side count i₀ rows columns i = (lag ≤ 3) × Filling lag i rows columns
 
-abbrev decreases-loop : tie.decreases-loop
+abbrev decreases-loop : tie.decreases-loop-i
 decreases-loop lag refusal rows₀ columns₀ side count i₀ rows columns i = count - i
 
-returns : tie.Need-returns invariant-loop decreases-loop
+returns : tie.Need-returns-then-refusal-ne0 invariant-loop decreases-loop
 unfolding positions_of
-returns c = rw (c.refused.ensures, ← c.before.before.lag-refusal.ensures) (sym (zeros _ _ _ c.before.if1.true))
+returns c = rw (c.refused.ensures, ← c.lag_refusal-refusal.ensures) (sym (zeros _ _ _ c.if-refusal-ne0.true))
 
 -- past the question
-lag-known : (c : tie.Else1 invariant-loop decreases-loop) → c.before.before.args.lag ≤ 3
-lag-known c = lag-fits _ (sym c.before.lag-refusal.ensures ∙ c.if1.false)
+lag-known : (c : tie.Else-refusal-ne0 invariant-loop decreases-loop) → c.args.lag ≤ 3
+lag-known c = lag-fits _ (sym c.lag_refusal-refusal.ensures ∙ c.if-refusal-ne0.false)
 
-few : (c : tie.In-loop invariant-loop decreases-loop) → c.before.loop.i < 24
-few c = omega (arith, neighbours-le c.before.loop.invariant.0)
+few : (c : tie.In-loop-i invariant-loop decreases-loop) → c.loop-i.i < 24
+few c = omega (arith, neighbours-le c.loop-i.invariant.0)
 
-offset-requires-2 : tie.Need-offset-requires-2 invariant-loop decreases-loop
-offset-requires-2 c κs = (le_trans (mod-le c.before.before.loop.i _) (le_of_lt (few c.before)), search rules)
+offset-requires-2 : tie.Need-offset-requires-in-loop-i invariant-loop decreases-loop
+offset-requires-2 c κs = (le_trans (mod-le c.loop-i.i _) (le_of_lt (few c.before)), search rules)
 
-loop-again : tie.Need-loop-preserved invariant-loop decreases-loop
+loop-again : tie.Need-loop-i-preserved invariant-loop decreases-loop
 loop-again c =
-    let l = c.before.before.before.loop in (
+    let l = c.loop-i in (
       search rules,
-      filling-turn _ _ c.before.before.loop-test.true (neighbours-le l.invariant.0) l.invariant.1
-          (to_z-of_z w32 c.before.offset.result (record { sfits = c.before.offset.type-inv }) ∙ c.before.offset.ensures)
-          (to_z-of_z w32 c.offset2.result (record { sfits = c.offset2.type-inv }) ∙ c.offset2.ensures),
+      filling-turn _ _ c.loop-i-test.true (neighbours-le l.invariant.0) l.invariant.1
+          (to_z-of_z w32 c.offset.result (record { sfits = c.offset.type_inv }) ∙ c.offset.ensures)
+          (to_z-of_z w32 c.offset-in-loop-i.result (record { sfits = c.offset-in-loop-i.type_inv }) ∙ c.offset-in-loop-i.ensures),
     )
 
-returns-2 : tie.Need-returns-2 invariant-loop decreases-loop
-returns-2 c = filling-ends (search rules) (search rules) c.before.loop.invariant.1
+returns-2 : tie.Need-returns invariant-loop decreases-loop
+returns-2 c = filling-ends (search rules) (search rules) c.loop-i.invariant.1
 
-pub ar-positions-spec : {M : Type 1} → statement M
-ar-positions-spec =
+pub ar_positions_spec : {M : Type 1} → statement M
+ar_positions_spec =
     tie.close
     (tie.spec
     invariant-loop
@@ -62,7 +62,7 @@ ar-positions-spec =
     (λ c. omega (arith, neighbours-le (lag-known c)))
     (λ c. (lag-known c, record { some = zero-le; rows_are = refl; columns-are = refl }))
     (λ c. search rules)
-    (λ c κs. (le_trans (div-le_self c.before.loop.i _) (le_of_lt (few c)), search rules))
+    (λ c κs. (le_trans (div-le_self c.loop-i.i _) (le_of_lt (few c)), search rules))
     (λ c. omega (arith, few c.before))
     (λ c. few c.before)
     (λ c. search rules)

@@ -15,11 +15,11 @@ difference : (k lag : ℕ) → k ≤ 24 → lag ≤ 3 → Is w32 (to_z w32 k -�
 difference k lag h l =
     minus (unsigned w32 k (omega arith)) (unsigned w32 lag (omega arith)) (lt_of_le_of_lt (offset-size k lag) (omega arith))
 
-sub-result : tie.Need-overflow-sub-result
+sub-result : tie.Need-overflow_sub-result
 sub-result c = fits (difference c.args.k c.args.lag c.requires.0 c.requires.1)
 
 returns : tie.Need-returns
 returns c = (again (difference c.args.k c.args.lag c.requires.0 c.requires.1)).eq
 
-pub offset-spec : {M : Type 1} → statement M
-offset-spec = tie.close (tie.spec (λ c. search rules) (λ c. search rules) sub-result returns)
+pub offset_spec : {M : Type 1} → statement M
+offset_spec = tie.close (tie.spec (λ c. search rules) (λ c. search rules) sub-result returns)

@@ -6,24 +6,23 @@ use Rattle.solve.specs.Elimination.{placed, substituted}
 use Rattle.solve.proofs.back_substitute.Statement.{statement}
 use Rattle.solve.proofs.back_substitute.Tie as tie
 
-abbrev invariant-loop : tie.invariant-loop
+abbrev invariant-loop : tie.invariant-loop-n
 invariant-loop a b order x₀ n₀ x n = Turned (placed order (record { matrix = a; right = b })) 0 order x₀ n x
 
-abbrev decreases-loop : tie.decreases-loop
+abbrev decreases-loop : tie.decreases-loop-n
 decreases-loop a b order x₀ n₀ x n = order - n
 
-loop-again : tie.Need-loop-preserved invariant-loop decreases-loop
+loop-again : tie.Need-loop-n-preserved invariant-loop decreases-loop
 unfolding placed
 loop-again c =
-    let at = c.before.before.before.before.before in
-    turned_more _ _ _ _ _ at.loop.invariant (search rules) (rw c.unknown.ensures)
+    turned_more _ _ _ _ _ c.loop-n.invariant (search rules) (rw c.unknown.ensures)
 
 returns : tie.Need-returns invariant-loop decreases-loop
 unfolding substituted
-returns c = turned-ends _ _ _ _ c.before.loop.invariant c.loop-test.false
+returns c = turned-ends _ _ _ _ c.loop-n.invariant c.loop-n-test.false
 
-pub back-substitute-spec : {M : Type 1} → statement M
-back-substitute-spec =
+pub back_substitute_spec : {M : Type 1} → statement M
+back_substitute_spec =
     tie.close
     (tie.spec
     invariant-loop

@@ -10,27 +10,26 @@ use Rattle.solve.proofs.Rows.{pivot-stays, row-cleared-is}
 use Rattle.solve.proofs.eliminate_below.Statement.{statement}
 use Rattle.solve.proofs.eliminate_below.Tie as tie
 
-abbrev invariant-loop : tie.invariant-loop
+abbrev invariant-loop : tie.invariant-loop-r
 invariant-loop b₀ i order a₀ pivot r₀ b a r = (pivot ≡ get_or a i []) × Turned {S = System} (row_cleared order i) (i + 1) order (record { matrix = a₀; right = b₀ }) r (record { matrix = a; right = b })
 
-abbrev decreases-loop : tie.decreases-loop
+abbrev decreases-loop : tie.decreases-loop-r
 decreases-loop b₀ i order a₀ pivot r₀ b a r = order - r
 
-loop-again : tie.Need-loop-preserved invariant-loop decreases-loop
+loop-again : tie.Need-loop-r-preserved invariant-loop decreases-loop
 loop-again c =
-    let at = c.before.before.before.before.before.before.before in
-    let row = c.before.before.before.less-row.ensures in (
-      pivot-stays _ _ at.loop.a _ _ (search rules) at.loop.invariant.0,
-      turned_more _ _ _ _ _ at.loop.invariant.1 (search rules)
-          (rw c.less-entry.ensures (row-cleared-is _ _ _ at.loop.a _ _ _ _ (search rules) (search rules) at.loop.invariant.0 row.0 row.1)),
+    let row = c.less_row-f.ensures in (
+      pivot-stays _ _ c.loop-r.a _ _ (search rules) c.loop-r.invariant.0,
+      turned_more _ _ _ _ _ c.loop-r.invariant.1 (search rules)
+          (rw c.less_entry.ensures (row-cleared-is _ _ _ c.loop-r.a _ _ _ _ (search rules) (search rules) c.loop-r.invariant.0 row.0 row.1)),
     )
 
 returns : tie.Need-returns invariant-loop decreases-loop
 unfolding cleared
-returns c = sym (turned-ends _ _ _ _ c.before.loop.invariant.1 c.loop-test.false)
+returns c = sym (turned-ends _ _ _ _ c.loop-r.invariant.1 c.loop-r-test.false)
 
-pub eliminate-below-spec : {M : Type 1} → statement M
-eliminate-below-spec =
+pub eliminate_below_spec : {M : Type 1} → statement M
+eliminate_below_spec =
     tie.close
     (tie.spec
     invariant-loop

@@ -10,32 +10,31 @@ use Rattle.solve.proofs.Column.{picked}
 use Rattle.solve.proofs.pivot_row.Statement.{statement}
 use Rattle.solve.proofs.pivot_row.Tie as tie
 
-abbrev invariant-loop : tie.invariant-loop
+abbrev invariant-loop : tie.invariant-loop-r
 invariant-loop a order i piv₀ r₀ piv r = (piv < order) × Turned (larger a i) (i + 1) order i r piv
 
-abbrev decreases-loop : tie.decreases-loop
+abbrev decreases-loop : tie.decreases-loop-r
 decreases-loop a order i piv₀ r₀ piv r = order - r
 
-loop-again : tie.Need-loop-preserved invariant-loop decreases-loop
+loop-again : tie.Need-loop-r-preserved invariant-loop decreases-loop
 unfolding larger
 loop-again c =
-    let at = c.before.before.before.before.before.before in
-    let m = c.before.before.before.magnitude.ensures in
-    let m2 = c.before.magnitude2.ensures in (
-      ⊎_elim (λ w. omega arith) (λ w. omega arith) c.if1.branch,
-      turned_more _ _ _ _ _ at.loop.invariant.1 (search rules)
+    let m = c.magnitude.ensures in
+    let m2 = c.magnitude-in-loop-r.ensures in (
+      ⊎_elim (λ w. omega arith) (λ w. omega arith) c.if-magnitude.branch,
+      turned_more _ _ _ _ _ c.loop-r.invariant.1 (search rules)
           (⊎_elim
           (λ w. picked _ _ _ _ true _ _ _ m2 m w.0.taken w.1)
           (λ w. picked _ _ _ _ false _ _ _ m2 m w.0.left w.1)
-          c.if1.branch),
+          c.if-magnitude.branch),
     )
 
 returns : tie.Need-returns invariant-loop decreases-loop
 unfolding pivot_of
-returns c = let l = c.before.loop in (turned-ends _ _ _ _ l.invariant.1 c.loop-test.false, l.invariant.0)
+returns c = let l = c.loop-r in (turned-ends _ _ _ _ l.invariant.1 c.loop-r-test.false, l.invariant.0)
 
-pub pivot-row-spec : {M : Type 1} → statement M
-pivot-row-spec =
+pub pivot_row_spec : {M : Type 1} → statement M
+pivot_row_spec =
     tie.close
     (tie.spec
     invariant-loop

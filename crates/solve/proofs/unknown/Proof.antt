@@ -8,25 +8,24 @@ use Rattle.solve.specs.Elimination.{value, known_less, unknown_of}
 use Rattle.solve.proofs.unknown.Statement.{statement}
 use Rattle.solve.proofs.unknown.Tie as tie
 
-abbrev invariant-loop : tie.invariant-loop
+abbrev invariant-loop : tie.invariant-loop-j
 invariant-loop row right x i order v₀ j₀ v j = Turned (known_less row x) (i + 1) order v₀ j v
 
-abbrev decreases-loop : tie.decreases-loop
+abbrev decreases-loop : tie.decreases-loop-j
 decreases-loop row right x i order v₀ j₀ v j = order - j
 
-loop-again : tie.Need-loop-preserved invariant-loop decreases-loop
+loop-again : tie.Need-loop-j-preserved invariant-loop decreases-loop
 unfolding known_less
-loop-again c = turned_more _ _ _ _ _ c.before.before.loop.invariant (search rules) c.less-known.ensures
+loop-again c = turned_more _ _ _ _ _ c.loop-j.invariant (search rules) c.less_known-v.ensures
 
 returns : tie.Need-returns invariant-loop decreases-loop
 unfolding unknown_of
 returns c =
-    let at = c.before.before in
-    let args = at.before.args in
-    ap (λ (v : Float). div binary64 v (value args.row.now args.i)) (turned-ends _ _ _ _ at.loop.invariant c.before.loop-test.false)
+    let args = c.args in
+    ap (λ (v : Float). div binary64 v (value args.row.now args.i)) (turned-ends _ _ _ _ c.loop-j.invariant c.loop-j-test.false)
 
-pub unknown-spec : {M : Type 1} → statement M
-unknown-spec =
+pub unknown_spec : {M : Type 1} → statement M
+unknown_spec =
     tie.close
     (tie.spec
     invariant-loop

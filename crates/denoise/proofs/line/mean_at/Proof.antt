@@ -12,20 +12,20 @@ use Rattle.denoise.proofs.line.mean_at.Tie as tie
 low : (line : List ℕ) (c : ℕ) → c + 2 < length line → SumsLow line → weigh (get_or line c 0) (get_or line (c + 1) 0) (get_or line (c + 2) 0) ≤ 16 * 65535
 low line c l h = omega (arith, h c (omega arith), h (c + 1) (omega arith), h (c + 2) (omega arith))
 
-weigh-three-requires : tie.Need-weigh-three-requires
+weigh-three-requires : tie.Need-weigh_three-requires
 weigh-three-requires c κs =
-    let S = c.before.before.before.before in omega (arith, low S.args.line.now S.args.c S.requires.0 S.requires.1)
+    omega (arith, low c.args.line.now c.args.c c.requires.0 c.requires.1)
 
-mean-of-requires : tie.Need-mean-of-requires
+mean-of-requires : tie.Need-mean_of-requires
 mean-of-requires c κs =
-    let S = c.before.before.before.before.before in omega (arith, low S.args.line.now S.args.c S.requires.0 S.requires.1)
+    omega (arith, low c.args.line.now c.args.c c.requires.0 c.requires.1)
 
 returns : tie.Need-returns
 unfolding line_mean
 returns c = cc
 
-pub mean-at-spec : {M : Type 1} → statement M
-mean-at-spec =
+pub mean_at_spec : {M : Type 1} → statement M
+mean_at_spec =
     tie.close
     (tie.spec
     (λ c. search rules)

@@ -7,9 +7,9 @@ use Rattle.denoise.proofs.plane.row_of.Statement.{statement}
 use Rattle.denoise.proofs.plane.row_of.Tie as tie
 
 returns : tie.Need-returns
-returns c = let S = c.before in rw (add-sub_cancel_left) (refl, row-length S.args.src.now S.args.width S.args.row S.requires)
+returns c = rw (add-sub_cancel_left) (refl, row-length c.args.src.now c.args.width c.args.row c.requires)
 
-pub row-of-spec : {M : Type 1} → statement M
-row-of-spec =
+pub row_of_spec : {M : Type 1} → statement M
+row_of_spec =
     tie.close
     (tie.spec (λ c. search rules) (λ c. search rules) (λ c. search rules) (λ c. search rules) (λ c. search rules) (λ c. search rules) returns)

@@ -9,20 +9,20 @@ use Rattle.denoise.proofs.Rows.{rows_none}
 use Rattle.denoise.proofs.plane.smooth_plane.Statement.{statement}
 use Rattle.denoise.proofs.plane.smooth_plane.Tie as tie
 
-returns : tie.Need-returns
-returns c = let S = c.before.before.before in rows_none S.args.src.now S.args.width S.args.height S.args.dst.now c.if1.true S.requires.2
+returns : tie.Need-returns-then-width-eq0
+returns c = rows_none c.args.src.now c.args.width c.args.height c.args.dst.now c.if-width-eq0.true c.requires.2
 
-line-length : (c : tie.After-blank-line) → let w = c.before.before.before.before.args.width in length (take (w + 2) c.blank-line.result) ≡ w + 2
+line-length : (c : tie.After-blank_line-line) → let w = c.args.width in length (take (w + 2) c.blank_line-line.result) ≡ w + 2
 line-length c = length-take-le _ _ (search rules)
 
-smooth-rows-requires : tie.Need-smooth-rows-requires
-smooth-rows-requires c κs = let S = c.before.before.before.before.before.before in (S.requires.1, omega arith, line-length c.before.before, S.requires.2)
+smooth-rows-requires : tie.Need-smooth_rows-requires
+smooth-rows-requires c κs = (c.requires.1, omega arith, line-length c.before.before, c.requires.2)
 
-returns-2 : tie.Need-returns-2
+returns-2 : tie.Need-returns
 returns-2 c = search rules
 
-pub smooth-plane-spec : {M : Type 1} → statement M
-smooth-plane-spec =
+pub smooth_plane_spec : {M : Type 1} → statement M
+smooth_plane_spec =
     tie.close
     (tie.spec
     returns

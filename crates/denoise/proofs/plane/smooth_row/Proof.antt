@@ -7,39 +7,34 @@ use Rattle.denoise.proofs.Separable.{sums_about, sums-low, means-smooth}
 use Rattle.denoise.proofs.plane.smooth_row.Statement.{statement}
 use Rattle.denoise.proofs.plane.smooth_row.Tie as tie
 
-row-of-requires : tie.Need-row-of-requires
-row-of-requires c κs = let S = c.before.before.before.before in omega (arith, row_within S.args.width S.args.height c.place-before.result (omega arith))
+row-of-requires : tie.Need-row_of-up-requires
+row-of-requires c κs = omega (arith, row_within c.args.width c.args.height c.place_before.result (omega arith))
 
-row-of-requires-2 : tie.Need-row-of-requires-2
-row-of-requires-2 c κs = let S = c.before.before.before.before.before in omega (arith, row_within S.args.width S.args.height S.args.row (omega arith))
+row-of-requires-2 : tie.Need-row_of-mid-requires
+row-of-requires-2 c κs = omega (arith, row_within c.args.width c.args.height c.args.row (omega arith))
 
-row-of-requires-3 : tie.Need-row-of-requires-3
-row-of-requires-3 c κs = let S = c.before.before.before.before.before.before.before in omega (arith, row_within S.args.width S.args.height c.place_after.result (omega arith))
+row-of-requires-3 : tie.Need-row_of-down-requires
+row-of-requires-3 c κs = omega (arith, row_within c.args.width c.args.height c.place_after.result (omega arith))
 
 -- the line about the row, filled
-filled : (c : tie.After-column-sums) → let A = c.before.before.before.before.before.before.before.before.before.before.args in
-    c.column-sums.new.1.1.1.0 ≡ sums_about A.src.now A.width A.height A.row
+filled : (c : tie.After-column_sums) → let A = c.args in
+    c.column_sums.new.line ≡ sums_about A.src.now A.width A.height A.row
 filled c = cc
 
-line-means-requires : tie.Need-line-means-requires
+line-means-requires : tie.Need-line_means-requires
 line-means-requires c κs =
-    let K = c.before.before.before.before in
-    let B = K.before.before.before.before.before.before.before.before.before in
-    let S = B.before in
-    let A = S.args in (
+    let A = c.args in (
       omega arith,
-      λ i l. rw (filled K) (sums-low A.src.now A.width A.height A.row (omega arith) (λ j. (B.shared-slice-known.given j).fits) i (omega arith)),
+      λ i l. rw (filled c.before.before.before) (sums-low A.src.now A.width A.height A.row (omega arith) (λ j. (c.shared_slice_known-1.given j).fits) i (omega arith)),
     )
 
 returns : tie.Need-returns
 returns c =
-    let K = c.before.before.before.before.before.before.before in
-    let S = K.before.before.before.before.before.before.before.before.before.before in
-    let A = S.args in
-    c.before.before.line-means.ensures ∙ rw (filled K, S.requires.4) (means-smooth A.src.now A.width A.height A.row S.requires.2)
+    let A = c.args in
+    c.line_means.ensures ∙ rw (filled c.before.before.before.before.before.before, c.requires.4) (means-smooth A.src.now A.width A.height A.row c.requires.2)
 
-pub smooth-row-spec : {M : Type 1} → statement M
-smooth-row-spec =
+pub smooth_row_spec : {M : Type 1} → statement M
+smooth_row_spec =
     tie.close
     (tie.spec
     (λ c κs. search rules)

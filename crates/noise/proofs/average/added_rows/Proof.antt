@@ -11,21 +11,20 @@ use Rattle.noise.specs.Lines.{Places}
 use Rattle.noise.proofs.average.added_rows.Statement.{statement}
 use Rattle.noise.proofs.average.added_rows.Tie as tie
 
-added-places-requires : tie.Need-added-places-requires
+added-places-requires : tie.Need-added_places-requires
 added-places-requires c κs =
-    let S = c.before.before.before.before in
-    let A = S.args in
+    let A = c.args in
     let n = length A.sums.now in
-    subst (λ (s : ℕ). Places sample_limit A.src.now A.den.now A.upper s n × Places sample_limit A.src.now A.den.now A.lower s n) c.before.if1.true S.requires
+    subst (λ (s : ℕ). Places sample_limit A.src.now A.den.now A.upper s n × Places sample_limit A.src.now A.den.now A.lower s n) c.if-stride-eq1.true c.requires
 
-returns : tie.Need-returns
+returns : tie.Need-returns-then-stride-eq1
 returns c =
-    let A = c.before.before.before.before.before.before.args in
-    subst (λ (s : ℕ). c.before.added-places.new.1.1.1.1.1.0 ≡ tabulate (length A.sums.now) (λ i. noise A.src.now A.den.now (A.upper + i * s) +ℤ noise A.src.now A.den.now (A.lower + i * s)))
-    (sym c.before.before.before.if1.true) c.before.added-places.ensures
+    let A = c.args in
+    subst (λ (s : ℕ). c.added_places.new.sums ≡ tabulate (length A.sums.now) (λ i. noise A.src.now A.den.now (A.upper + i * s) +ℤ noise A.src.now A.den.now (A.lower + i * s)))
+    (sym c.if-stride-eq1.true) c.added_places.ensures
 
-pub added-rows-spec : {M : Type 1} → statement M
-added-rows-spec =
+pub added_rows_spec : {M : Type 1} → statement M
+added_rows_spec =
     tie.close
     (tie.spec
     added-places-requires

@@ -7,48 +7,48 @@ use Rattle.noise.proofs.Averages.{RowsOf, sums-small, line-count, line-is, rows,
 use Rattle.noise.proofs.average.average_line.Statement.{statement}
 use Rattle.noise.proofs.average.average_line.Tie as tie
 
-add-held : tie.Need-overflow-add-held
-add-held c = let A = c.before.before.before.before.requires in omega (arith, upper_in A, A.luma.low, A.down)
+add-held : tie.Need-overflow_add-upper-2
+add-held c = let A = c.requires in omega (arith, upper_in A, A.luma.low, A.down)
 
-mul-added-rows : tie.Need-overflow-mul-added-rows
-mul-added-rows c = let A = c.before.before.before.before.before.before.requires in omega (arith, (A.luma.rows _ (upper_in A)).begins)
+mul-added-rows : tie.Need-overflow_mul-upper-2
+mul-added-rows c = let A = c.requires in omega (arith, (A.luma.rows _ (upper_in A)).begins)
 
-add-added-rows : tie.Need-overflow-add-added-rows
-add-added-rows c = let A = c.before.before.before.before.before.before.before.requires in omega (arith, (A.luma.rows _ (upper_in A)).begins)
+add-added-rows : tie.Need-overflow_add-view
+add-added-rows c = let A = c.requires in omega (arith, (A.luma.rows _ (upper_in A)).begins)
 
-mul-added-rows-2 : tie.Need-overflow-mul-added-rows-2
-mul-added-rows-2 c = let A = c.before.before.before.before.before.before.before.before.requires in omega (arith, (A.luma.rows _ (lower_in A c.before.before.before.held.ensures)).begins)
+mul-added-rows-2 : tie.Need-overflow_mul-lower
+mul-added-rows-2 c = let A = c.requires in omega (arith, (A.luma.rows _ (lower_in A c.held-lower.ensures)).begins)
 
-add-added-rows-2 : tie.Need-overflow-add-added-rows-2
-add-added-rows-2 c = let A = c.before.before.before.before.before.before.before.before.before.requires in omega (arith, (A.luma.rows _ (lower_in A c.before.before.before.before.held.ensures)).begins)
+add-added-rows-2 : tie.Need-overflow_add-view-2
+add-added-rows-2 c = let A = c.requires in omega (arith, (A.luma.rows _ (lower_in A c.held-lower.ensures)).begins)
 
-added-rows-requires : tie.Need-added-rows-requires
+added-rows-requires : tie.Need-added_rows-requires
 added-rows-requires c κs =
-    let A = c.before.before.before.before.before.before.before.before.before.before.requires in
-    (row-places A _ (upper_in A), row-places A _ (lower_in A c.before.before.before.before.before.held.ensures))
+    let A = c.requires in
+    (row-places A _ (upper_in A), row-places A _ (lower_in A c.held-lower.ensures))
 
 -- the sums, as filled
-added : (c : tie.After-added-rows) → let A = c.before.before.before.before.before.before.before.before.before.before.before.args in
-    RowsOf (record { plane = seen A.view A.src.now A.den.now; sampling = A.sampling }) A.r c.added-rows.new.1.1.1.1.1.0
-added c = rows_of c.before.before.before.before.before.before.before.before.before.before.before.requires c.before.before.before.before.before.before.held.ensures c.added-rows.ensures
+added : (c : tie.After-added_rows) → let A = c.args in
+    RowsOf (record { plane = seen A.view A.src.now A.den.now; sampling = A.sampling }) A.r c.added_rows.new.sums
+added c = rows_of c.requires c.held-lower.ensures c.added_rows.ensures
 
-quarters-line-requires : tie.Need-quarters-line-requires
+quarters-line-requires : tie.Need-quarters_line-requires
 quarters-line-requires c κs =
-    let A = c.before.before.before.before.before.before.before.before.before.before.before.before.before.before.requires in
-    let T = added c.before.before.before in
+    let A = c.requires in
+    let T = added c.before.before in
     (A.across, sums-small _ _ (rows A) T, line-count _ _ (rows A) T A.line-length)
 
 returns : tie.Need-returns
 returns c =
-    let A = c.before.before.before.before.before.before.before.before.before.before.before.before.before.before.before.before.requires in
-    c.before.quarters-line.ensures ∙ line-is _ _ (rows A) (added c.before.before.before.before.before) A.line-length
+    let A = c.requires in
+    c.quarters_line.ensures ∙ line-is _ _ (rows A) (added c.before.before.before.before) A.line-length
 
-pub average-line-spec : {M : Type 1} → statement M
-average-line-spec =
+pub average_line_spec : {M : Type 1} → statement M
+average_line_spec =
     tie.close
     (tie.spec
     (λ c. search rules)
-    (λ c. let A = c.before.before.before.requires in omega (arith, upper_in A, A.luma.low))
+    (λ c. let A = c.requires in omega (arith, upper_in A, A.luma.low))
     add-held
     (λ c κs. search rules)
     mul-added-rows

@@ -16,61 +16,59 @@ use Rattle.noise.proofs.Quarters.{last-is}
 use Rattle.noise.proofs.average.halved_line.Statement.{statement}
 use Rattle.noise.proofs.average.halved_line.Tie as tie
 
-abbrev invariant-loop : tie.invariant-loop
+abbrev invariant-loop : tie.invariant-loop-from
 invariant-loop sums line₀ w pairs from₀ line from = (w ≡ length sums) × (pairs ≡ length sums / 2) × (from ≤ pairs) × Filled (quartered 1 sums) line₀ line from
 
-abbrev decreases-loop : tie.decreases-loop
+abbrev decreases-loop : tie.decreases-loop-from
 decreases-loop sums line₀ w pairs from₀ line from = pairs - from
 
-halved-part-requires : tie.Need-halved-part-requires invariant-loop decreases-loop
+halved-part-requires : tie.Need-halved_part-requires invariant-loop decreases-loop
 halved-part-requires c κs =
-    let H = c.before.before.loop in
-    (c.before.before.before.requires.0, omega arith, omega (arith, H.invariant.3.same), H.invariant.3.front)
+    let H = c.loop-from in
+    (c.requires.0, omega arith, omega (arith, H.invariant.3.same), H.invariant.3.front)
 
-loop-again : tie.Need-loop-preserved invariant-loop decreases-loop
+loop-again : tie.Need-loop-from-preserved invariant-loop decreases-loop
 loop-again c =
-    let S = c.before.before.before.before.before in
-    let H = c.before.before.before.before.loop in (
+    let H = c.loop-from in (
       refl,
       refl,
       omega arith,
-      record { count = omega arith; same = c.before.halved-part.auto.1.1.1.0 ∙ H.invariant.3.same; front = c.before.halved-part.ensures },
+      record { count = omega arith; same = c.halved_part.auto.line ∙ H.invariant.3.same; front = c.halved_part.ensures },
     )
 
 -- all pairs, after the last part
-paired : (c : tie.After-halved-part2 invariant-loop decreases-loop) → let A = c.before.before.before.before.args in
-    Filled (quartered 1 A.sums.now) A.line.now c.halved-part2.new.1.1.1.0 (length A.sums.now / 2)
+paired : (c : tie.After-halved_part-2 invariant-loop decreases-loop) → let A = c.args in
+    Filled (quartered 1 A.sums.now) A.line.now c.halved_part-2.new.line (length A.sums.now / 2)
 paired c =
-    let A = c.before.before.before.before.args in
-    let H = c.before.before.before.loop in
+    let A = c.args in
+    let H = c.loop-from in
     let e : H.from + (length A.sums.now / 2 - H.from) ≡ length A.sums.now / 2 = omega arith in
     record {
       count = omega arith;
-      same = c.halved-part2.auto.1.1.1.0 ∙ H.invariant.3.same;
-      front = tabulate-at _ _ _ _ e c.halved-part2.ensures;
+      same = c.halved_part-2.auto.line ∙ H.invariant.3.same;
+      front = tabulate-at _ _ _ _ e c.halved_part-2.ensures;
     }
 
-halved-part-requires-2 : tie.Need-halved-part-requires-2 invariant-loop decreases-loop
+halved-part-requires-2 : tie.Need-halved_part-requires-2 invariant-loop decreases-loop
 halved-part-requires-2 c κs =
-    let H = c.before.before.loop in
-    (c.before.before.before.requires.0, omega arith, omega (arith, H.invariant.3.same), H.invariant.3.front)
+    let H = c.loop-from in
+    (c.requires.0, omega arith, omega (arith, H.invariant.3.same), H.invariant.3.front)
 
 -- what the last column gets
-stored : (c : tie.After-a invariant-loop decreases-loop) → let A = c.before.before.before.before.before.before.before.args in
+stored : (c : tie.After-a-1 invariant-loop decreases-loop) → let A = c.args in
     let z = at A.sums.now (length A.sums.now - 1) in
     Is w16 (to_z w16 (of_z w16 z) +ℤ to_z w16 (of_z w16 z)) (quartered 1 A.sums.now (length A.sums.now / 2))
 stored c =
-    let S = c.before.before.before.before.before.before.before in
-    last-is _ S.requires.0 (length S.args.sums.now / 2) (omega (arith, (paired c.before.before.before).same))
+    last-is _ c.requires.0 (length c.args.sums.now / 2) (omega (arith, (paired c.before.before.before).same))
 
-returns : tie.Need-returns invariant-loop decreases-loop
+returns : tie.Need-returns-then-pairs-line invariant-loop decreases-loop
 returns c = fill-ends _ _ (fill-turn _ _ _ (paired c.before.before.before) (omega (arith, (paired c.before.before.before).same)) (again (stored c)).eq) (omega arith)
 
-returns-2 : tie.Need-returns-2 invariant-loop decreases-loop
+returns-2 : tie.Need-returns-else-pairs-line invariant-loop decreases-loop
 returns-2 c = fill-ends _ _ (paired c.before.before) (omega (arith, (paired c.before.before).same))
 
-pub halved-line-spec : {M : Type 1} → statement M
-halved-line-spec =
+pub halved_line_spec : {M : Type 1} → statement M
+halved_line_spec =
     tie.close
     (tie.spec
     invariant-loop
@@ -88,7 +86,7 @@ halved-line-spec =
     (λ c. omega (arith, (paired c.before.before).same))
     (λ c. fits (stored c))
     (λ c. search rules)
-    (λ c. c.before.if1.true)
+    (λ c. c.if-pairs-line.true)
     (λ c. simp length-set (paired c.before.before.before).same)
     returns
     (λ c. (paired c.before.before).same)

@@ -15,28 +15,28 @@ use Rattle.noise.proofs.Quarters.{even_is}
 use Rattle.noise.proofs.average.halved_part.Statement.{statement}
 use Rattle.noise.proofs.average.halved_part.Tie as tie
 
-abbrev invariant-loop : tie.invariant-loop
+abbrev invariant-loop : tie.invariant-loop-k
 invariant-loop sums from n line₀ k₀ k-end line k = (k ≤ from + n) × Filled (quartered 1 sums) line₀ line k
 
-abbrev decreases-loop : tie.decreases-loop
+abbrev decreases-loop : tie.decreases-loop-k
 decreases-loop sums from n line₀ k₀ k-end line k = k-end - k
 
 -- what a turn stores
-stored : (c : tie.After-line2 invariant-loop decreases-loop) → let A = c.before.before.before.before.args in
-    let k = c.before.before.before.loop.k in
+stored : (c : tie.After-line-in-loop-k-1 invariant-loop decreases-loop) → let A = c.args in
+    let k = c.loop-k.k in
     Is w16 (to_z w16 (of_z w16 (at A.sums.now (k * 2))) +ℤ to_z w16 (of_z w16 (at A.sums.now (k * 2 + 1)))) (quartered 1 A.sums.now k)
-stored c = even_is _ c.before.before.before.before.requires.0 _ (omega arith)
+stored c = even_is _ c.requires.0 _ (omega arith)
 
-loop-again : tie.Need-loop-preserved invariant-loop decreases-loop
-loop-again c = (omega arith, fill-turn _ _ _ c.before.before.before.loop.invariant.1 (omega arith) (again (stored c)).eq)
+loop-again : tie.Need-loop-k-preserved invariant-loop decreases-loop
+loop-again c = (omega arith, fill-turn _ _ _ c.loop-k.invariant.1 (omega arith) (again (stored c)).eq)
 
 returns : tie.Need-returns invariant-loop decreases-loop
 returns c =
-    let A = c.before.before.args in
-    tabulate-at _ _ c.before.loop.k (A.from + A.n) (omega arith) c.before.loop.invariant.1.front
+    let A = c.args in
+    tabulate-at _ _ c.loop-k.k (A.from + A.n) (omega arith) c.loop-k.invariant.1.front
 
-pub halved-part-spec : {M : Type 1} → statement M
-halved-part-spec =
+pub halved_part_spec : {M : Type 1} → statement M
+halved_part_spec =
     tie.close
     (tie.spec
     invariant-loop

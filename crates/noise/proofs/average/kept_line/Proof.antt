@@ -13,25 +13,25 @@ use Rattle.noise.proofs.Quarters.{kept-is}
 use Rattle.noise.proofs.average.kept_line.Statement.{statement}
 use Rattle.noise.proofs.average.kept_line.Tie as tie
 
-abbrev invariant-loop : tie.invariant-loop
+abbrev invariant-loop : tie.invariant-loop-k
 invariant-loop sums line₀ k₀ k-end line k = Filled (quartered 0 sums) line₀ line k
 
-abbrev decreases-loop : tie.decreases-loop
+abbrev decreases-loop : tie.decreases-loop-k
 decreases-loop sums line₀ k₀ k-end line k = k-end - k
 
 -- what a turn stores
-stored : (c : tie.After-a invariant-loop decreases-loop) → let z = at c.before.before.before.args.sums.now c.before.before.loop.k in
-    Is w16 (to_z w16 (of_z w16 z) +ℤ to_z w16 (of_z w16 z)) (quartered 0 c.before.before.before.args.sums.now c.before.before.loop.k)
-stored c = kept-is _ c.before.before.before.requires.0 c.before.before.loop.k (omega arith)
+stored : (c : tie.After-a-1 invariant-loop decreases-loop) → let z = at c.args.sums.now c.loop-k.k in
+    Is w16 (to_z w16 (of_z w16 z) +ℤ to_z w16 (of_z w16 z)) (quartered 0 c.args.sums.now c.loop-k.k)
+stored c = kept-is _ c.requires.0 c.loop-k.k (omega arith)
 
-loop-again : tie.Need-loop-preserved invariant-loop decreases-loop
-loop-again c = fill-turn _ _ _ c.before.before.loop.invariant (search rules) (again (stored c)).eq
+loop-again : tie.Need-loop-k-preserved invariant-loop decreases-loop
+loop-again c = fill-turn _ _ _ c.loop-k.invariant (search rules) (again (stored c)).eq
 
 returns : tie.Need-returns invariant-loop decreases-loop
-returns c = fill-ends _ _ c.before.loop.invariant (search rules)
+returns c = fill-ends _ _ c.loop-k.invariant (search rules)
 
-pub kept-line-spec : {M : Type 1} → statement M
-kept-line-spec =
+pub kept_line_spec : {M : Type 1} → statement M
+kept_line_spec =
     tie.close
     (tie.spec
     invariant-loop

@@ -14,31 +14,27 @@ use Rattle.noise.proofs.average.quarters_line.Tie as tie
 one : (sub : ℕ) → sub ≤ 1 → (sub ≡ 0 → ⊥) → sub ≡ 1
 one sub h k = omega arith
 
-kept-line-requires : tie.Need-kept-line-requires
+kept-line-requires : tie.Need-kept_line-requires
 kept-line-requires c κs =
-    let S = c.before.before in
-    (S.requires.1, subst (λ (s : ℕ). length S.args.line.now ≡ sampled s (length S.args.sums.now)) c.before.if1.true S.requires.2)
+    (c.requires.1, subst (λ (s : ℕ). length c.args.line.now ≡ sampled s (length c.args.sums.now)) c.if-sub-eq0.true c.requires.2)
 
-halved-line-requires : tie.Need-halved-line-requires
+halved-line-requires : tie.Need-halved_line-requires
 halved-line-requires c κs =
-    let S = c.before.before in
-    (S.requires.1, subst (λ (s : ℕ). length S.args.line.now ≡ sampled s (length S.args.sums.now)) (one S.args.sub S.requires.0 c.before.if1.false) S.requires.2)
+    (c.requires.1, subst (λ (s : ℕ). length c.args.line.now ≡ sampled s (length c.args.sums.now)) (one c.args.sub c.requires.0 c.if-sub-eq0.false) c.requires.2)
 
-returns : tie.Need-returns
+returns : tie.Need-returns-then-sub-eq0
 returns c =
-    let S = c.before.before.before.before in
-    let A = S.args in
+    let A = c.args in
     subst (λ (s : ℕ). c.before.Kept-line.new.1.0 ≡ tabulate (length A.line.now) (quartered s A.sums.now))
-    (sym c.before.before.before.if1.true) c.before.Kept-line.ensures
+    (sym c.if-sub-eq0.true) c.before.Kept-line.ensures
 
-returns-2 : tie.Need-returns-2
+returns-2 : tie.Need-returns-else-sub-eq0
 returns-2 c =
-    let S = c.before.before.before.before in
-    let A = S.args in
-    subst (λ (s : ℕ). c.before.halved-line.new.1.0 ≡ tabulate (length A.line.now) (quartered s A.sums.now))
-    (sym (one S.args.sub S.requires.0 c.before.before.before.if1.false)) c.before.halved-line.ensures
+    let A = c.args in
+    subst (λ (s : ℕ). c.halved_line.new.line ≡ tabulate (length A.line.now) (quartered s A.sums.now))
+    (sym (one c.args.sub c.requires.0 c.if-sub-eq0.false)) c.halved_line.ensures
 
-pub quarters-line-spec : {M : Type 1} → statement M
-quarters-line-spec =
+pub quarters_line_spec : {M : Type 1} → statement M
+quarters_line_spec =
     tie.close
     (tie.spec kept-line-requires halved-line-requires (λ c. search rules) returns (λ c. search rules) returns-2)

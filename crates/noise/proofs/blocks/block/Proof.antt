@@ -13,43 +13,43 @@ use Rattle.noise.proofs.BlockSums.{wide32, wide, product_is, block-turn}
 use Rattle.noise.proofs.blocks.block.Statement.{statement}
 use Rattle.noise.proofs.blocks.block.Tie as tie
 
-abbrev invariant-loop : tie.invariant-loop
+abbrev invariant-loop : tie.invariant-loop-i
 invariant-loop p q from n sum₀ i₀ sum i = (i ≤ n) × (to_z w32 sum ≡ span (product p q) from i)
 
-abbrev decreases-loop : tie.decreases-loop
+abbrev decreases-loop : tie.decreases-loop-i
 decreases-loop p q from n sum₀ i₀ sum i = n - i
 
-loop-holds : tie.Need-loop-init invariant-loop decreases-loop
+loop-holds : tie.Need-loop-i-init invariant-loop decreases-loop
 unfolding total
 loop-holds c = (omega arith, refl)
 
-cast-x : tie.Need-overflow-cast-x invariant-loop decreases-loop
+cast-x : tie.Need-overflow_cast-x invariant-loop decreases-loop
 cast-x c =
-    let A = c.before.before.before.args in
-    fits (wide32 (at A.p.now (A.from + c.before.before.loop.i)) (record { sfits = c.x.given }))
+    let A = c.args in
+    fits (wide32 (at A.p.now (A.from + c.loop-i.i)) (record { sfits = c.x-1.given }))
 
-cast-y : tie.Need-overflow-cast-y invariant-loop decreases-loop
+cast-y : tie.Need-overflow_cast-y invariant-loop decreases-loop
 cast-y c =
-    let A = c.before.before.before.before.args in
-    fits (wide32 (at A.q.now (A.from + c.before.before.before.loop.i)) (record { sfits = c.y.given }))
+    let A = c.args in
+    fits (wide32 (at A.q.now (A.from + c.loop-i.i)) (record { sfits = c.y-1.given }))
 
 -- a turn's product, and the sum with it
-multiplied : (c : tie.After-y invariant-loop decreases-loop) → let A = c.before.before.before.before.args in
-    let k = A.from + c.before.before.before.loop.i in
+multiplied : (c : tie.After-y-1 invariant-loop decreases-loop) → let A = c.args in
+    let k = A.from + c.loop-i.i in
     Is w32 (wide (at A.p.now k) *ℤ wide (at A.q.now k)) (product A.p.now A.q.now k)
-multiplied c = product_is c.before.before.before.before.requires.0 (omega arith) _ (omega arith) (record { sfits = c.before.x.given }) (record { sfits = c.y.given })
+multiplied c = product_is c.requires.0 (omega arith) _ (omega arith) (record { sfits = c.x-1.given }) (record { sfits = c.y-1.given })
 
-added : (c : tie.After-y invariant-loop decreases-loop) → let A = c.before.before.before.before.args in
-    let H = c.before.before.before.loop in
+added : (c : tie.After-y-1 invariant-loop decreases-loop) → let A = c.args in
+    let H = c.loop-i in
     let k = A.from + H.i in
     Is w32 (to_z w32 H.sum +ℤ to_z w32 (of_z w32 (wide (at A.p.now k) *ℤ wide (at A.q.now k)))) (span (product A.p.now A.q.now) A.from (H.i + 1))
-added c = block-turn c.before.before.before.before.requires.0 (omega arith) _ _ (omega arith) (omega arith) c.before.before.before.loop.invariant.1 (again (multiplied c)).eq
+added c = block-turn c.requires.0 (omega arith) _ _ (omega arith) (omega arith) c.loop-i.invariant.1 (again (multiplied c)).eq
 
-loop-again : tie.Need-loop-preserved invariant-loop decreases-loop
+loop-again : tie.Need-loop-i-preserved invariant-loop decreases-loop
 loop-again c = (omega arith, (again (added c)).eq)
 
 returns : tie.Need-returns invariant-loop decreases-loop
-returns c = let e : c.before.loop.i ≡ c.before.before.args.n = omega arith in rw e at c.before.loop.invariant.1
+returns c = let e : c.loop-i.i ≡ c.args.n = omega arith in rw e at c.loop-i.invariant.1
 
 pub block_spec : {M : Type 1} → statement M
 block_spec =

@@ -15,5 +15,5 @@ zeros (suc n) (suc i) = zeros n i
 returns : tie.Need-returns
 returns c = zeros side_limit
 
-pub blank-line-spec : {M : Type 1} → statement M
-blank-line-spec = tie.close (tie.spec returns)
+pub blank_line_spec : {M : Type 1} → statement M
+blank_line_spec = tie.close (tie.spec returns)

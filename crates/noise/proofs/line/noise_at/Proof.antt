@@ -6,10 +6,10 @@ use Rattle.noise.proofs.line.noise_at.Statement.{statement}
 use Rattle.noise.proofs.line.noise_at.Tie as tie
 
 returns : tie.Need-returns
-returns c = (again (noise-is c.before.before.requires)).eq
+returns c = (again (noise-is c.requires)).eq
 
-pub noise-at-spec : {M : Type 1} → statement M
-noise-at-spec =
+pub noise_at_spec : {M : Type 1} → statement M
+noise_at_spec =
     tie.close
     (tie.spec
     (λ c. search rules)
@@ -18,5 +18,5 @@ noise-at-spec =
     (λ c. search rules)
     (λ c. search rules)
     (λ c. search rules)
-    (λ c. fits (noise-is c.before.before.requires))
+    (λ c. fits (noise-is c.requires))
     returns)

@@ -9,23 +9,22 @@ use Rattle.noise.specs.Lines.{Places}
 use Rattle.noise.proofs.line.noise_line.Statement.{statement}
 use Rattle.noise.proofs.line.noise_line.Tie as tie
 
-noise-places-requires : tie.Need-noise-places-requires
+noise-places-requires : tie.Need-noise_places-requires
 noise-places-requires c κs =
-    let S = c.before.before.before.before in
-    let A = S.args in
-    subst (λ (s : ℕ). Places (2 ^ 15) A.src.now A.den.now A.start s (length A.line.now)) c.before.if1.true S.requires
+    let A = c.args in
+    subst (λ (s : ℕ). Places (2 ^ 15) A.src.now A.den.now A.start s (length A.line.now)) c.if-stride-eq1.true c.requires
 
-returns : tie.Need-returns
+returns : tie.Need-returns-then-stride-eq1
 returns c =
-    let A = c.before.before.before.before.before.before.args in
-    subst (λ (s : ℕ). c.before.noise-places.new.1.1.1.1.0 ≡ tabulate (length A.line.now) (λ i. noise A.src.now A.den.now (A.start + i * s)))
-    (sym c.before.before.before.if1.true) c.before.noise-places.ensures
+    let A = c.args in
+    subst (λ (s : ℕ). c.noise_places.new.line ≡ tabulate (length A.line.now) (λ i. noise A.src.now A.den.now (A.start + i * s)))
+    (sym c.if-stride-eq1.true) c.noise_places.ensures
 
-returns-2 : tie.Need-returns-2
+returns-2 : tie.Need-returns-else-stride-eq1
 returns-2 c = search rules
 
-pub noise-line-spec : {M : Type 1} → statement M
-noise-line-spec =
+pub noise_line_spec : {M : Type 1} → statement M
+noise_line_spec =
     tie.close
     (tie.spec
     noise-places-requires

@@ -11,26 +11,26 @@ use Rattle.noise.proofs.Lines.{low-at}
 use Rattle.noise.proofs.line.noise_places.Statement.{statement}
 use Rattle.noise.proofs.line.noise_places.Tie as tie
 
-abbrev invariant-loop : tie.invariant-loop
+abbrev invariant-loop : tie.invariant-loop-i
 invariant-loop src den start stride line₀ i₀ i-end line i = Filled (λ k. noise src den (start + k * stride)) line₀ line i
 
-abbrev decreases-loop : tie.decreases-loop
+abbrev decreases-loop : tie.decreases-loop-i
 decreases-loop src den start stride line₀ i₀ i-end line i = i-end - i
 
 -- the place of a turn
-here : (c : tie.In-loop invariant-loop decreases-loop) → let A = c.before.before.before.before.args in LowAt (2 ^ 15) A.src.now A.den.now (A.start + c.before.loop.i * A.stride)
-here c = low-at c.before.before.before.before.requires c.loop-test.true
+here : (c : tie.In-loop-i invariant-loop decreases-loop) → let A = c.args in LowAt (2 ^ 15) A.src.now A.den.now (A.start + c.loop-i.i * A.stride)
+here c = low-at c.requires c.loop-i-test.true
 
-loop-again : tie.Need-loop-preserved invariant-loop decreases-loop
+loop-again : tie.Need-loop-i-preserved invariant-loop decreases-loop
 loop-again c =
-    let n = c.noise-at in
-    fill-turn _ _ _ c.before.before.loop.invariant c.before.loop-test.true ((again (self (record { sfits = n.type-inv }))).eq ∙ n.ensures)
+    let n = c.noise_at in
+    fill-turn _ _ _ c.loop-i.invariant c.loop-i-test.true ((again (self (record { sfits = n.type-inv }))).eq ∙ n.ensures)
 
 returns : tie.Need-returns invariant-loop decreases-loop
-returns c = fill-ends _ _ c.before.loop.invariant (search rules)
+returns c = fill-ends _ _ c.loop-i.invariant (search rules)
 
-pub noise-places-spec : {M : Type 1} → statement M
-noise-places-spec =
+pub noise_places_spec : {M : Type 1} → statement M
+noise_places_spec =
     tie.close
     (tie.spec
     invariant-loop

@@ -9,23 +9,23 @@ use Rattle.noise.proofs.Shift.{small-fits, shift_is}
 use Rattle.noise.proofs.line.shifted_line.Statement.{statement}
 use Rattle.noise.proofs.line.shifted_line.Tie as tie
 
-abbrev invariant-loop : tie.invariant-loop
+abbrev invariant-loop : tie.invariant-loop-i
 invariant-loop line shift out₀ i₀ i-end out i = Filled (λ k. shifted shift (at line k)) out₀ out i
 
-abbrev decreases-loop : tie.decreases-loop
+abbrev decreases-loop : tie.decreases-loop-i
 decreases-loop line shift out₀ i₀ i-end out i = i-end - i
 
-loop-again : tie.Need-loop-preserved invariant-loop decreases-loop
+loop-again : tie.Need-loop-i-preserved invariant-loop decreases-loop
 loop-again c =
-    let A = c.before.before.before.args in
-    let i = c.before.before.loop.i in
-    fill-turn _ _ _ c.before.before.loop.invariant (search rules) (again (shift_is A.shift (at A.line.now i) (record { sfits = c.out.given }))).eq
+    let A = c.args in
+    let i = c.loop-i.i in
+    fill-turn _ _ _ c.loop-i.invariant (search rules) (again (shift_is A.shift (at A.line.now i) (record { sfits = c.out-1.given }))).eq
 
 returns : tie.Need-returns invariant-loop decreases-loop
-returns c = fill-ends _ _ c.before.loop.invariant (search rules)
+returns c = fill-ends _ _ c.loop-i.invariant (search rules)
 
-pub shifted-line-spec : {M : Type 1} → statement M
-shifted-line-spec =
+pub shifted_line_spec : {M : Type 1} → statement M
+shifted_line_spec =
     tie.close
     (tie.spec
     invariant-loop
@@ -33,7 +33,7 @@ shifted-line-spec =
     (λ c. fill-starts _ _)
     (λ c. search rules)
     (λ c. search rules)
-    (λ c. small-fits c.before.before.before.requires.0)
+    (λ c. small-fits c.requires.0)
     (λ c. search rules)
     (λ c. search rules)
     (λ c. search rules)

@@ -7,16 +7,16 @@ use Rattle.noise.proofs.RowSums.{sum_is}
 use Rattle.noise.proofs.rows.pair_plus.Statement.{statement}
 use Rattle.noise.proofs.rows.pair_plus.Tie as tie
 
-second : (c : tie.After-struct-told2) → let A = c.before.before.before.before.args in
+second : (c : tie.After-struct_told-2-1) → let A = c.args in
     Is w64 (to_z w64 (of_z w64 A.a.second) +ℤ to_z w64 (of_z w64 A.b.second)) (A.a.second +ℤ A.b.second)
-second c = let S = c.before.before.before.before in sum_is S.args.a.second S.args.b.second (record { sfits = c.before.before.struct_told.given.0.1 }) (record { sfits = c.struct-told2.given.0.1 }) S.requires.second
+second c = sum_is c.args.a.second c.args.b.second (record { sfits = c.struct_told-1.given.0.1 }) (record { sfits = c.struct_told-2-1.given.0.1 }) c.requires.second
 
-cross : (c : tie.After-struct-told4) → let A = c.before.before.before.before.before.before.before.before.args in
+cross : (c : tie.After-struct_told-4-1) → let A = c.args in
     Is w64 (to_z w64 (of_z w64 A.a.cross) +ℤ to_z w64 (of_z w64 A.b.cross)) (A.a.cross +ℤ A.b.cross)
-cross c = let S = c.before.before.before.before.before.before.before.before in sum_is S.args.a.cross S.args.b.cross (record { sfits = c.before.before.struct-told3.given.1.0.1 }) (record { sfits = c.struct-told4.given.1.0.1 }) S.requires.cross
+cross c = sum_is c.args.a.cross c.args.b.cross (record { sfits = c.struct_told-3-1.given.1.0.1 }) (record { sfits = c.struct_told-4-1.given.1.0.1 }) c.requires.cross
 
 returns : tie.Need-returns
 returns c = λ i. record { second = (again (second c.before.before.before.before)).eq i; cross = (again (cross c)).eq i }
 
-pub pair-plus-spec : {M : Type 1} → statement M
-pair-plus-spec = tie.close (tie.spec (λ c. fits (second c)) (λ c. fits (cross c)) returns)
+pub pair_plus_spec : {M : Type 1} → statement M
+pair_plus_spec = tie.close (tie.spec (λ c. fits (second c)) (λ c. fits (cross c)) returns)

@@ -6,24 +6,23 @@ use Rattle.noise.proofs.Seen.{noise-seen, cross-same}
 use Rattle.noise.proofs.rows.pair_sums.Statement.{statement}
 use Rattle.noise.proofs.rows.pair_sums.Tie as tie
 
-slice-aggregate-view-pair : tie.Need-slice-aggregate-view-pair
-slice-aggregate-view-pair c = sym (length-take-le c.before.before.before.before.before.before.before.args.view.width c.before.before.blank-line.result (search rules))
+slice-aggregate-view-pair : tie.Need-slice_bounds-view_pair-end
+slice-aggregate-view-pair c = sym (length-take-le c.args.view.width c.blank_line-p.result (search rules))
 
-slice-aggregate-view-pair-2 : tie.Need-slice-aggregate-view-pair-2
-slice-aggregate-view-pair-2 c = sym (length-take-le c.before.before.before.before.before.before.before.before.args.view.width c.before.before.blank-line2.result (search rules))
+slice-aggregate-view-pair-2 : tie.Need-slice_bounds-view_pair-end-2
+slice-aggregate-view-pair-2 c = sym (length-take-le c.args.view.width c.blank_line-q.result (search rules))
 
-view-pair-requires : tie.Need-view-pair-requires
+view-pair-requires : tie.Need-view_pair-requires
 view-pair-requires c κs =
-    let S = c.before.before.before.before.before.before.before.before in
-    (S.requires.0, S.requires.1, sym (slice-aggregate-view-pair c.before), sym (slice-aggregate-view-pair-2 c))
+    (c.requires.0, c.requires.1, sym (slice-aggregate-view-pair c.before), sym (slice-aggregate-view-pair-2 c))
 
 returns : tie.Need-returns
 returns c =
-    let A = c.before.before.before.before.before.before.before.before.before.before.before.args in
-    cross-same (noise-seen A.view A.src0.now A.den0.now) (noise-seen A.view A.src1.now A.den1.now) c.before.before.view-pair.ensures
+    let A = c.args in
+    cross-same (noise-seen A.view A.src0.now A.den0.now) (noise-seen A.view A.src1.now A.den1.now) c.view_pair.ensures
 
-pub pair-sums-spec : {M : Type 1} → statement M
-pair-sums-spec =
+pub pair_sums_spec : {M : Type 1} → statement M
+pair_sums_spec =
     tie.close
     (tie.spec
     (λ c κs. search rules)

@@ -14,51 +14,46 @@ use Rattle.noise.proofs.NoiseLines.{lines, is-noise}
 use Rattle.noise.proofs.rows.row_pair.Statement.{statement}
 use Rattle.noise.proofs.rows.row_pair.Tie as tie
 
-noise-line-requires-2 : tie.Need-noise-line-requires-2
+noise-line-requires-2 : tie.Need-noise_line-requires-2
 noise-line-requires-2 c κs =
-    let S = c.before.before.before.before.before.before.before.before in
-    let A = S.args in
-    subst (λ (n : ℕ). Places (2 ^ 15) A.src1.now A.den1.now A.start A.stride n) (sym S.requires.3) (looser S.requires.1)
+    let A = c.args in
+    subst (λ (n : ℕ). Places (2 ^ 15) A.src1.now A.den1.now A.start A.stride n) (sym c.requires.3) (looser c.requires.1)
 
 -- the second line, as long as the first
-second : (c : tie.After-q) → let A = c.before.before.before.before.before.before.before.before.before.before.args in
-    c.before.noise-line2.new.1.1.1.1.0 ≡ tabulate (length A.p.now) (λ i. noise A.src1.now A.den1.now (A.start + i * A.stride))
+second : (c : tie.After-q-1) → let A = c.args in
+    c.noise_line-2.new.line ≡ tabulate (length A.p.now) (λ i. noise A.src1.now A.den1.now (A.start + i * A.stride))
 second c =
-    let S = c.before.before.before.before.before.before.before.before.before.before in
-    let A = S.args in
-    subst (λ (n : ℕ). c.before.noise-line2.new.1.1.1.1.0 ≡ tabulate n (λ i. noise A.src1.now A.den1.now (A.start + i * A.stride)))
-    S.requires.3 c.before.noise-line2.ensures
+    let A = c.args in
+    subst (λ (n : ℕ). c.noise_line-2.new.line ≡ tabulate n (λ i. noise A.src1.now A.den1.now (A.start + i * A.stride)))
+    c.requires.3 c.noise_line-2.ensures
 
-dot-requires : tie.Need-dot-requires
+dot-requires : tie.Need-dot-second-requires
 dot-requires c κs =
-    let S = c.before.before.before.before.before.before.before.before.before.before.before in
-    let L = is-noise S.requires.1 (second c.before) S.requires.2 in
+    let L = is-noise c.requires.1 (second c) c.requires.2 in
     lines L L refl
 
-dot-requires-2 : tie.Need-dot-requires-2
+dot-requires-2 : tie.Need-dot-cross-requires
 dot-requires-2 c κs =
-    let S = c.before.before.before.before.before.before.before.before.before.before.before.before.before in
-    let A = S.args in
+    let A = c.args in
     let n = length A.p.now in
-    let e = c.before.before.before.before.before.before.before.noise-line.ensures in
-    let d = second c.before.before.before in
-    lines (is-noise S.requires.0 e S.requires.2) (is-noise S.requires.1 d S.requires.2) (size n (λ i. noise A.src0.now A.den0.now (A.start + i * A.stride)) e ∙ sym (size n (λ i. noise A.src1.now A.den1.now (A.start + i * A.stride)) d))
+    let e = c.noise_line.ensures in
+    let d = second c.before in
+    lines (is-noise c.requires.0 e c.requires.2) (is-noise c.requires.1 d c.requires.2) (size n (λ i. noise A.src0.now A.den0.now (A.start + i * A.stride)) e ∙ sym (size n (λ i. noise A.src1.now A.den1.now (A.start + i * A.stride)) d))
 
 returns : tie.Need-returns
 returns c =
-    let S = c.before.before.before.before.before.before.before.before.before.before.before.before.before.before in
-    let q = second c.before.before.before.before in
-    let d = c.before.before.dot in
+    let q = second c.before.before in
+    let d = c.dot-second in
     record {
-      second = (again (self (record { sfits = d.type-inv }))).eq ∙ d.ensures ∙ noise-sum S.requires.1 S.requires.1 q q;
-      cross = (again (self (record { sfits = c.dot2.type-inv }))).eq ∙ c.dot2.ensures ∙ noise-sum S.requires.0 S.requires.1 c.before.before.before.before.before.before.before.before.noise-line.ensures q;
+      second = (again (self (record { sfits = d.type-inv }))).eq ∙ d.ensures ∙ noise-sum c.requires.1 c.requires.1 q q;
+      cross = (again (self (record { sfits = c.dot-cross.type-inv }))).eq ∙ c.dot-cross.ensures ∙ noise-sum c.requires.0 c.requires.1 c.noise_line.ensures q;
     }
 
-pub row-pair-spec : {M : Type 1} → statement M
-row-pair-spec =
+pub row_pair_spec : {M : Type 1} → statement M
+row_pair_spec =
     tie.close
     (tie.spec
-    (λ c κs. looser c.before.before.before.before.before.requires.0)
+    (λ c κs. looser c.requires.0)
     noise-line-requires-2
     dot-requires
     dot-requires-2

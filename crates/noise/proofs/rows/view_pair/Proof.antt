@@ -10,49 +10,48 @@ use Rattle.noise.proofs.RowSums.{cross-none, cross-more, cross-held}
 use Rattle.noise.proofs.rows.view_pair.Statement.{statement}
 use Rattle.noise.proofs.rows.view_pair.Tie as tie
 
-abbrev invariant-loop : tie.invariant-loop
+abbrev invariant-loop : tie.invariant-loop-r
 invariant-loop src0 den0 src1 den1 view p₀ q₀ total₀ r₀ r-end p q total r =
     (r ≤ view.height) × (length p ≡ view.width) × (length q ≡ view.width) × CrossOf (noise_at src0 den0 view) (noise_at src1 den1 view) r view.width total
 
-abbrev decreases-loop : tie.decreases-loop
+abbrev decreases-loop : tie.decreases-loop-r
 decreases-loop src0 den0 src1 den1 view p₀ q₀ total₀ r₀ r-end p q total r = view.height - r
 
-mul-start : tie.Need-overflow-mul-start invariant-loop decreases-loop
-mul-start c = omega (arith, (c.before.before.before.before.before.before.before.requires.0.rows c.before.before.loop.r (search rules)).begins)
+mul-start : tie.Need-overflow_mul-start invariant-loop decreases-loop
+mul-start c = omega (arith, (c.requires.0.rows c.loop-r.r (search rules)).begins)
 
-add_start : tie.Need-overflow-add-start invariant-loop decreases-loop
-add_start c = omega (arith, (c.before.before.before.before.before.before.before.before.requires.0.rows c.before.before.before.loop.r (search rules)).begins)
+add_start : tie.Need-overflow_add-start invariant-loop decreases-loop
+add_start c = omega (arith, (c.requires.0.rows c.loop-r.r (search rules)).begins)
 
-row-pair-requires : tie.Need-row-pair-requires invariant-loop decreases-loop
+row-pair-requires : tie.Need-row_pair-row-requires invariant-loop decreases-loop
 row-pair-requires c κs =
-    let S = c.before.before.before.before.before.before.before.before.before.before in
-    let H = c.before.before.before.before.before.loop in
-    let l : H.r < S.args.view.height = omega arith in
-    rw H.invariant.1 (S.requires.0.rows H.r l, S.requires.1.rows H.r l, S.requires.0.narrow, H.invariant.2)
+    let H = c.loop-r in
+    let l : H.r < c.args.view.height = omega arith in
+    rw H.invariant.1 (c.requires.0.rows H.r l, c.requires.1.rows H.r l, c.requires.0.narrow, H.invariant.2)
 
 -- the sums with a row more
-grown : (c : tie.After-row-pair invariant-loop decreases-loop) → let A = c.before.before.before.before.before.before.before.before.before.before.before.args in
-    let H = c.before.before.before.before.before.before.loop in
-    CrossOf (noise_at A.src0.now A.den0.now A.view) (noise_at A.src1.now A.den1.now A.view) (H.r + 1) A.view.width (pair_plus H.total c.row-pair.result)
-grown c = let H = c.before.before.before.before.before.before.loop in cross-more H.invariant.3 (rw H.invariant.1 at c.row-pair.ensures)
+grown : (c : tie.After-row_pair-row invariant-loop decreases-loop) → let A = c.args in
+    let H = c.loop-r in
+    CrossOf (noise_at A.src0.now A.den0.now A.view) (noise_at A.src1.now A.den1.now A.view) (H.r + 1) A.view.width (pair_plus H.total c.row_pair-row.result)
+grown c = let H = c.loop-r in cross-more H.invariant.3 (rw H.invariant.1 at c.row_pair-row.ensures)
 
-pair-plus-requires : tie.Need-pair-plus-requires invariant-loop decreases-loop
-pair-plus-requires c κs = cross-held c.before.before.before.before.before.before.before.before.before.before.before.before.before.requires.0 c.before.before.before.before.before.before.before.before.before.before.before.before.before.requires.1 (omega arith) (grown c.before.before)
+pair-plus-requires : tie.Need-pair_plus-total-requires invariant-loop decreases-loop
+pair-plus-requires c κs = cross-held c.requires.0 c.requires.1 (omega arith) (grown c.before.before)
 
-add_r : tie.Need-overflow-add-r invariant-loop decreases-loop
-add_r c = record { fits = omega (arith, c.before.before.before.before.before.before.before.before.before.before.before.before.before.before.requires.0.low) }
+add_r : tie.Need-overflow_step-r invariant-loop decreases-loop
+add_r c = record { fits = omega (arith, c.requires.0.low) }
 
-loop-again : tie.Need-loop-preserved invariant-loop decreases-loop
+loop-again : tie.Need-loop-r-preserved invariant-loop decreases-loop
 loop-again c =
-    let H = c.before.before.before.before.before.before.before.before.before.loop in
-    let kept = c.before.before.before.row-pair.auto.1.1.1.1.1.1 in
-    (omega arith, kept.0 ∙ H.invariant.1, kept.1.0 ∙ H.invariant.2, rw c.pair-plus.ensures (grown c.before.before.before))
+    let H = c.loop-r in
+    let kept = c.row_pair-row.auto.p in
+    (omega arith, kept.0 ∙ H.invariant.1, kept.1.0 ∙ H.invariant.2, rw c.pair_plus-total.ensures (grown c.before.before.before))
 
 returns : tie.Need-returns invariant-loop decreases-loop
-returns c = let e : c.before.loop.r ≡ c.before.before.before.before.before.before.args.view.height = omega arith in rw e at c.before.loop.invariant.3
+returns c = let e : c.loop-r.r ≡ c.args.view.height = omega arith in rw e at c.loop-r.invariant.3
 
-pub view-pair-spec : {M : Type 1} → statement M
-view-pair-spec =
+pub view_pair_spec : {M : Type 1} → statement M
+view_pair_spec =
     tie.close
     (tie.spec
     invariant-loop

@@ -8,18 +8,17 @@ use Rattle.noise.proofs.sums.lagged_dot.Tie as tie
 
 returns : tie.Need-returns
 returns c =
-    let S = c.before.before.before in
-    (again (self (record { sfits = c.dot.type-inv }))).eq ∙ c.dot.ensures ∙ lagged-sum S.requires.0 S.requires.1
+    (again (self (record { sfits = c.dot.type-inv }))).eq ∙ c.dot.ensures ∙ lagged-sum c.requires.0 c.requires.1
 
-pub lagged-dot-spec : {M : Type 1} → statement M
-lagged-dot-spec =
+pub lagged_dot_spec : {M : Type 1} → statement M
+lagged_dot_spec =
     tie.close
     (tie.spec
     (λ c. search rules)
-    (λ c. sym (front_length c.before.requires.0 c.before.requires.1))
+    (λ c. sym (front_length c.requires.0 c.requires.1))
     (λ c. search rules)
     (λ c. search rules)
     (λ c. search rules)
     (λ c. search rules)
-    (λ c κs. lagged-lines c.before.before.requires.0 c.before.before.requires.1)
+    (λ c κs. lagged-lines c.requires.0 c.requires.1)
     returns)

@@ -9,23 +9,21 @@ use Rattle.noise.proofs.NoiseLines.{lines, unshifted, shifted-lines, shifted_sum
 use Rattle.noise.proofs.sums.shifted_energy.Statement.{statement}
 use Rattle.noise.proofs.sums.shifted_energy.Tie as tie
 
-returns : tie.Need-returns
+returns : tie.Need-returns-then-shift-eq0
 returns c =
-    let L = c.before.requires.0 in
-    (again (known c.before.requires.3 (line-lt (lines L L refl) (lit≤ tt) _ (le_refl _)))).eq ∙ unshifted c.before.args.line.now c.if1.true
+    let L = c.requires.0 in
+    (again (known c.requires.3 (line-lt (lines L L refl) (lit≤ tt) _ (le_refl _)))).eq ∙ unshifted c.args.line.now c.if-shift-eq0.true
 
 dot-requires : tie.Need-dot-requires
 dot-requires c κs =
-    let S = c.before.before.before.before.before in
-    shifted-lines S.requires.0 S.args.shift S.requires.2 c.before.before.shifted-line.ensures
+    shifted-lines c.requires.0 c.args.shift c.requires.2 c.shifted_line.ensures
 
-returns-2 : tie.Need-returns-2
+returns-2 : tie.Need-returns
 returns-2 c =
-    let S = c.before.before.before.before.before.before in
     (again (self (record { sfits = c.dot.type-inv }))).eq
     ∙ c.dot.ensures
-    ∙ shifted_sum S.requires.0 S.args.shift S.requires.2 c.before.before.before.shifted-line.ensures
+    ∙ shifted_sum c.requires.0 c.args.shift c.requires.2 c.shifted_line.ensures
 
-pub shifted-energy-spec : {M : Type 1} → statement M
-shifted-energy-spec =
+pub shifted_energy_spec : {M : Type 1} → statement M
+shifted_energy_spec =
     tie.close (tie.spec returns (λ c κs. search rules) dot-requires (λ c. search rules) returns-2)

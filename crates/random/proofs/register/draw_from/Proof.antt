@@ -213,9 +213,9 @@ from-meets : {M : Type 1} {𝓤 : Ura M} (𝓛 : Logic 𝓤) (at_mem : Memory �
 from-meets {𝓤 = 𝓤} 𝓛 at_mem run 𝓣 known-new known_next = walk_Meets 𝓛 from-seed.ended stayed (goes 𝓛 at_mem run) (from-seed.clauses 𝓛 at_mem run) (WpFn 𝓤 𝓛.H 𝓣.C 𝓣.Λ code.function) (WpFn-mono 𝓤 𝓛.H 𝓛.laws 𝓣 code.function)
     (from-walks 𝓛 at_mem run 𝓣.C 𝓣.Λ (fm_of 𝓤 𝓛.H 𝓛.laws 𝓣) known-new known_next)
 
-pub draw-from-spec : {M : Type 1} → stated.statement M
+pub draw_from_spec : {M : Type 1} → stated.statement M
 unfolding code.routine tables_of
-draw-from-spec 𝓤 𝓛 𝓜 𝓡 =
+draw_from_spec 𝓤 𝓛 𝓜 𝓡 =
     entered 𝓤 𝓛.H (triple_of 𝓛 from-seed.signature (from-seed.spec 𝓛 𝓜.mem 𝓡.run))
     (tables 𝓤 𝓛.H 𝓜 𝓡 code.env).C (tables 𝓤 𝓛.H 𝓜 𝓡 code.env).Λ #draw-from code.function (code.unfolded 𝓤 𝓛.H 𝓜 𝓡)
     (from-meets 𝓛 𝓜.mem 𝓡.run (tables_of 𝓤 𝓛.H 𝓜 (tables 𝓤 𝓛.H 𝓜 𝓡 code.env))

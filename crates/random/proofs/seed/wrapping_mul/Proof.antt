@@ -9,11 +9,11 @@ product_lt a b ha hb =
     let lb : b ≤ 2 ^ 32 - 1 = omega arith in
     omega (arith, mul-le-mul la lb)
 
-mul-product : tie.Need-overflow-mul-product
+mul-product : tie.Need-overflow_mul-product
 mul-product c = record { fits = product_lt c.args.a c.args.b (search rules) (search rules) }
 
 returns : tie.Need-returns
 returns c = search rules
 
-pub wrapping-mul-spec : {M : Type 1} → statement M
-wrapping-mul-spec = tie.close (tie.spec mul-product (λ c. search rules) returns)
+pub wrapping_mul_spec : {M : Type 1} → statement M
+wrapping_mul_spec = tie.close (tie.spec mul-product (λ c. search rules) returns)

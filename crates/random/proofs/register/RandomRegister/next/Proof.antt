@@ -154,9 +154,9 @@ next-meets : {M : Type 1} {𝓤 : Ura M} (𝓛 : Logic 𝓤) (at_mem : Memory �
 next-meets {𝓤 = 𝓤} 𝓛 at_mem run 𝓣 known = walk_Meets 𝓛 next.ended stayed (goes 𝓛 at_mem run) (next.clauses 𝓛 at_mem run) (WpFn 𝓤 𝓛.H 𝓣.C 𝓣.Λ code.function) (WpFn-mono 𝓤 𝓛.H 𝓛.laws 𝓣 code.function)
     (next-walks 𝓛 at_mem run 𝓣.C 𝓣.Λ (fm_of 𝓤 𝓛.H 𝓛.laws 𝓣) known)
 
-pub next-spec : {M : Type 1} → stated.statement M
+pub next_spec : {M : Type 1} → stated.statement M
 unfolding code.routine tables_of
-next-spec 𝓤 𝓛 𝓜 𝓡 =
+next_spec 𝓤 𝓛 𝓜 𝓡 =
     entered 𝓤 𝓛.H (triple_of 𝓛 next.signature (next.spec 𝓛 𝓜.mem 𝓡.run))
     (tables 𝓤 𝓛.H 𝓜 𝓡 code.env).C (tables 𝓤 𝓛.H 𝓜 𝓡 code.env).Λ #next code.function (code.unfolded 𝓤 𝓛.H 𝓜 𝓡)
     (next-meets 𝓛 𝓜.mem 𝓡.run (tables_of 𝓤 𝓛.H 𝓜 (tables 𝓤 𝓛.H 𝓜 𝓡 code.env))

@@ -11,15 +11,15 @@ use Rattle.random.proofs.register.RandomRegister.stepped.Statement.{statement}
 use Rattle.random.proofs.register.RandomRegister.stepped.Tie as tie
 
 -- past the question
-bits-known : (c : tie.Else1) → c.before.before.args.bits ≤ 16
-bits-known c = bits_fit _ (sym c.before.bits-refusal.ensures ∙ c.if1.false)
+bits-known : (c : tie.Else-refusal-ne0) → c.args.bits ≤ 16
+bits-known c = bits_fit _ (sym c.bits_refusal-refusal.ensures ∙ c.if-refusal-ne0.false)
 
-returns : tie.Need-returns
-returns c = rw (← c.before.bits-refusal.ensures) (sym (stays _ _ _ c.if1.true))
+returns : tie.Need-returns-then-refusal-ne0
+returns c = rw (← c.bits_refusal-refusal.ensures) (sym (stays _ _ _ c.if-refusal-ne0.true))
 
-sub-top-2 : tie.Need-overflow-sub-top-2
+sub-top-2 : tie.Need-overflow_sub-top-2
 sub-top-2 c =
-    let bits = c.before.before.before.args.bits in
+    let bits = c.args.bits in
     omega (arith, one_shl bits (bits-known c.before), pow_pos bits)
 
 -- the code shifts by tap 0 as well
@@ -27,24 +27,24 @@ coded : (r : ℕ) → bit_or (r / 2 ^ 1) (bit_and (bit_xor (bit_xor (bit_xor (r 
 unfolding shifted
 coded r = rw (div-one r)
 
-cast-state : tie.Need-overflow-cast-state
+cast-state : tie.Need-overflow_cast-state
 cast-state c =
-    let r = c.before.before.before.args.self.state in
+    let r = c.args.self.state in
     let h : r < 2 ^ 16 = search rules in
     record { fits = rw (coded r, shifted-is-moved r h) (moved-lt r h) }
 
-returns-2 : tie.Need-returns-2
+returns-2 : tie.Need-returns
 unfolding result
 returns-2 c =
-    let g = c.before.before.before.args.self in
+    let g = c.args.self in
     let r = g.state in
-    let bits = c.before.before.before.args.bits in
+    let bits = c.args.bits in
     let h : r < 2 ^ 16 = search rules in
     let l = bits-known c.before in
     rw (coded r, answers_agree r bits h l, shifted-is-moved r h) (sym (step-accepted g bits l))
 
-pub stepped-spec : {M : Type 1} → statement M
-stepped-spec =
+pub stepped_spec : {M : Type 1} → statement M
+stepped_spec =
     tie.close
     (tie.spec
     (λ c κs. search rules)
