@@ -14,8 +14,8 @@ beside r d = record { refusal = d.refusal; value = d.value; after = r }
 returns : tie.Need-returns
 unfolding beside
 returns c =
-    let step = c.before.before.stepped in
-    ap (beside step.result.register) c.before.record_of.ensures ∙ ap of_stepped step.ensures
+    let step = c.stepped-s in
+    ap (beside step.result.register) c.record_of-d.ensures ∙ ap of_stepped step.ensures
 
-pub grain-random-step-spec : {M : Type 1} → statement M
-grain-random-step-spec = tie.close (tie.spec (λ c κs. search rules) (λ c κs. search rules) returns)
+pub grain_random_step_spec : {M : Type 1} → statement M
+grain_random_step_spec = tie.close (tie.spec (λ c κs. search rules) (λ c κs. search rules) returns)

@@ -6,7 +6,7 @@ use Rattle.grain.proofs.gates.grain_lag_h_rho.Statement.{statement}
 use Rattle.grain.proofs.gates.grain_lag_h_rho.Tie as tie
 
 returns : tie.Need-returns
-returns c = c.record_of.ensures ∙ ap of_rho c.before.lag-h-rho.ensures
+returns c = c.record_of.ensures ∙ ap of_rho c.lag_h_rho.ensures
 
-pub grain-lag-h-rho-spec : {M : Type 1} → statement M
-grain-lag-h-rho-spec = tie.close (tie.spec (λ c κs. search rules) (λ c κs. search rules) returns)
+pub grain_lag_h_rho_spec : {M : Type 1} → statement M
+grain_lag_h_rho_spec = tie.close (tie.spec (λ c κs. search rules) (λ c κs. search rules) returns)
