@@ -20,6 +20,6 @@ mod say;
 mod systems;
 mod worked;
 
-fn main() {
-    report::run();
+fn main(rt: HostRuntime) -> anyhow::Result<()> {
+    report::run(&rt)
 }

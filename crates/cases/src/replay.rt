@@ -1,11 +1,14 @@
 // The recorded lists: what the Rust answered, and the numbers of each refused call, against what the calls answer here.
-ghost use Rattle.std.specs.Prelude.{◌≤◌};
+ghost use Rattle.std.specs.Prelude.{◌≡◌, ◌↔◌, ◌≤◌, IfOk};
 
 use crate::answers::answer;
+use crate::case::{Answer, Case};
 use crate::lines::{case_at, line_at};
 use crate::say::{say, say_word};
 use crate::worked::show;
-use libc::STDOUT_FILENO;
+use anyhow::Context;
+use std::rt::Files;
+use std::{fs, io};
 
 // Stands for a call, of lines that are worked cases.
 pub const WORKED: u64 = 14;
@@ -18,63 +21,81 @@ pub struct Counts {
 }
 
 // What a line was answered with.
-fn say_answer(name: &[u8], word: &[u8], number: usize, refusal: u64, value: u64) {
-    io::write_all(STDOUT_FILENO, name);
-    say_word(word, number as u64);
-    say_word(b" refusal ", refusal);
-    say_word(b" answer ", value);
-    io::write_all(STDOUT_FILENO, b"\n");
+fn say_answer(
+    rt: &impl Print,
+    name: &str,
+    word: &str,
+    number: usize,
+    refusal: u64,
+    value: u64,
+) -> io::Result<()> {
+    print!(rt; "{name}")?;
+    say_word(rt, word, number as u64)?;
+    say_word(rt, " refusal ", refusal)?;
+    say_word(rt, " answer ", value)?;
+    println!(rt)
 }
 
-// 1 where a line's answer is another than the recorded one; both are then written. A worked case is shown.
-fn difference(name: &[u8], call: u64, number: usize, line: &[u8]) -> usize
-    ensures { result ≤ 1 }
+// 1 where an answer is another than the recorded one, else 0.
+fn difference(a: Answer, c: Case) -> usize
+    ensures bound { result ≤ 1 }
+    ensures same { (result ≡ 0) ↔ ((a.refusal ≡ c.refusal) × (a.value ≡ c.answer)) }
 {
-    if call == WORKED {
-        show(line);
-        return 0;
-    }
-    let c = case_at(line, 0);
-    let a = answer(call, c);
     if a.refusal as u64 == c.refusal {
         if a.value == c.answer {
             return 0;
         }
     }
-    say_answer(name, b" line ", number, a.refusal as u64, a.value);
-    say_answer(name, b" recorded, line ", number, c.refusal, c.answer);
     1
 }
 
+// How many differences a line has: where its answer is another than the recorded one, both are written. A worked case is shown.
+fn replay_line(
+    rt: &impl Print,
+    name: &str,
+    call: u64,
+    number: usize,
+    line: &[u8],
+) -> io::Result<usize>
+    ensures { IfOk result (λ n. n ≤ 1) }
+{
+    if call == WORKED {
+        show(rt, line)?;
+        return Ok(0);
+    }
+    let c = case_at(line, 0);
+    let a = answer(call, c);
+    let differences = difference(a, c);
+    if differences > 0 {
+        say_answer(rt, name, " line ", number, a.refusal as u64, a.value)?;
+        say_answer(rt, name, " recorded, line ", number, c.refusal, c.answer)?;
+    }
+    Ok(differences)
+}
+
 // Every line of a text.
-pub fn compare(name: &[u8], call: u64, text: &[u8]) -> Counts {
+pub fn compare(rt: &impl Print, name: &str, call: u64, text: &[u8]) -> io::Result<Counts> {
     let mut at = 0;
     let mut calls = 0;
     let mut differences = 0;
     while at < text.len() {
         let line = line_at(text, at);
         calls += 1;
-        differences += difference(name, call, calls, line);
+        differences += replay_line(rt, name, call, calls, line)?;
         at += line.len() + 1;
     }
-    Counts { calls, differences }
+    Ok(Counts { calls, differences })
 }
 
-fn say_counts(name: &[u8], counts: Counts) {
-    say(name, counts.calls as u64);
-    say_word(b" calls, ", counts.differences as u64);
-    io::write_all(STDOUT_FILENO, b" differences\n");
+fn say_counts(rt: &impl Print, name: &str, counts: Counts) -> io::Result<()> {
+    say(rt, name.as_bytes(), counts.calls as u64)?;
+    say_word(rt, " calls, ", counts.differences as u64)?;
+    println!(rt; " differences")
 }
 
-// A list is a file of the call's name.
-pub fn replay(name: &[u8], call: u64) {
-    let file = os::open_read(name);
-    if file < 0 {
-        os::fail(name);
-        return;
-    }
-    let mut list = io::large_buffer();
-    let n = io::read_full(file, &mut list);
-    libc::close(file);
-    say_counts(name, compare(name, call, &list[..n]));
+// A list is a file of the call's name. The report ends at one that can't be read.
+pub fn replay(rt: &(impl Files + Print + Alloc), name: &str, call: u64) -> anyhow::Result<()> {
+    let list = fs::read(rt, name).context(format_args!("reading {name}"))?;
+    say_counts(rt, name, compare(rt, name, call, &list)?)?;
+    Ok(())
 }

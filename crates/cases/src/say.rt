@@ -1,12 +1,11 @@
 // A part of a line of the report.
-use libc::STDOUT_FILENO;
+use std::io;
 
-pub fn say_word(word: &[u8], value: u64) {
-    io::write_all(STDOUT_FILENO, word);
-    io::print_decimal(STDOUT_FILENO, value);
+pub fn say_word(rt: &impl Print, word: &str, value: u64) -> io::Result<()> {
+    print!(rt; "{word}{value}")
 }
 
-pub fn say(name: &[u8], value: u64) {
-    io::write_all(STDOUT_FILENO, name);
-    say_word(b": ", value);
+pub fn say(rt: &impl Print, name: &[u8], value: u64) -> io::Result<()> {
+    rt.write_all(name)?;
+    say_word(rt, ": ", value)
 }

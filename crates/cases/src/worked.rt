@@ -9,7 +9,7 @@ use crate::case::{Answer, Case};
 use crate::lines::{case_at, word_at};
 use crate::reads::read;
 use crate::say::say;
-use libc::STDOUT_FILENO;
+use std::io;
 
 // What is shown of an answer: its refusal; its value; its refusal, 1000 where it is none; the bits that the register drew, or its
 // refusal; its figure.
@@ -41,9 +41,9 @@ fn worked(c: Case) -> u64 {
 }
 
 // A worked case's line: its name, a colon and its numbers.
-pub fn show(line: &[u8]) {
+pub fn show(rt: &impl Print, line: &[u8]) -> io::Result<()> {
     let name = word_at(line, 0, b':');
     let colon = name.end;
-    say(&line[0..colon], worked(case_at(line, name.next)));
-    io::write_all(STDOUT_FILENO, b"\n");
+    say(rt, &line[0..colon], worked(case_at(line, name.next)))?;
+    println!(rt)
 }
