@@ -73,7 +73,10 @@ module _ (luma : Luma) (x : Bit luma.sampling.across) (y : Bit luma.sampling.dow
 
   apart : average_f luma r c ≡ div binary64 acc cnt
   unfolding average_f visited
-  apart = ap (λ (s : Float × Float). div binary64 s.0 s.1) (loops-pair _ _ 0 (luma.sampling.down + 1) 0 (luma.sampling.across + 1) (plus_zero, plus_zero))
+  apart = ap (λ (s : Float × Float). div binary64 s.0 s.1) (loops-pair
+      (λ i j s. add binary64 s (noise_f luma.plane.source luma.plane.denoised (luma_place luma r c i j)))
+      (λ i j s. add binary64 s one)
+      0 (luma.sampling.down + 1) 0 (luma.sampling.across + 1) (plus_zero, plus_zero))
 
   pub average-exact : (nat_abs (quarters luma r c) ≤ 4 * top) × Holds 2 (quarters luma r c) (average_f luma r c)
   unfolding quarters

@@ -1,6 +1,5 @@
 -- `solve::pivot_row` meets its contract. piv is the pivot among the rows from i up to r. Assumes nothing.
 use mathlib.Core.Bool.{true, false}
-use mathlib.Core.Logic.{⊎_elim}
 use Prim.Native.Nat.{◌+◌, ◌<◌, ◌-◌}
 use native.Mathlib.Omega.{arith}
 use borrow.Author.Rules.{rules}
@@ -8,6 +7,7 @@ use Rattle.laws.proofs.Turns.{Turned, turned-starts, turned_more, turned-ends}
 use Rattle.solve.specs.Elimination.{larger, pivot_of}
 use Rattle.solve.proofs.Column.{picked}
 use Rattle.solve.proofs.pivot_row.Statement.{statement}
+use Rattle.solve.proofs.pivot_row.Lts.{then-magnitude, else-magnitude}
 use Rattle.solve.proofs.pivot_row.Tie as tie
 
 abbrev invariant-loop : tie.invariant-loop-r
@@ -21,12 +21,12 @@ unfolding larger
 loop-again c =
     let m = c.magnitude.ensures in
     let m2 = c.magnitude-in-loop-r.ensures in (
-      ⊎_elim (λ w. omega arith) (λ w. omega arith) c.if-magnitude.branch,
+      elim c.if-magnitude.branch [ then-magnitude w ↦ omega arith | else-magnitude w ↦ omega arith ],
       turned_more _ _ _ _ _ c.loop-r.invariant.1 (search rules)
-          (⊎_elim
-          (λ w. picked _ _ _ _ true _ _ _ m2 m w.0.taken w.1)
-          (λ w. picked _ _ _ _ false _ _ _ m2 m w.0.left w.1)
-          c.if-magnitude.branch),
+          (elim c.if-magnitude.branch [
+              then-magnitude w ↦ picked _ _ _ _ true _ _ _ m2 m w.if-magnitude.true w.piv-is
+            | else-magnitude w ↦ picked _ _ _ _ false _ _ _ m2 m w.if-magnitude.false w.piv-is
+          ]),
     )
 
 returns : tie.Need-returns invariant-loop decreases-loop

@@ -23,7 +23,7 @@ decreases-loop order a₀ b₀ refusal i₀ a b i = order - i
 turned : (c : tie.After-magnitude invariant-loop decreases-loop) (t : Bool)
     → lt c.magnitude.result limit ≡ t
     → (let args = c.args in
-    Turned (column args.order) 0 args.order (going (record { matrix = args.t1; right = args.t2 })) (c.loop-i.i + 1)
+    Turned (column args.order) 0 args.order (going (record { matrix = args.a; right = args.b })) (c.loop-i.i + 1)
     (cond t none (going (cleared args.order c.loop-i.i (record { matrix = c.exchange_rows-a.result; right = c.exchange_values-b.result })))))
 turned c t h =
     turned_more _ _ _ _ _ c.loop-i.invariant.1 (search rules)

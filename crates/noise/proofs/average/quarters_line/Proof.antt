@@ -25,8 +25,8 @@ halved-line-requires c κs =
 returns : tie.Need-returns-then-sub-eq0
 returns c =
     let A = c.args in
-    subst (λ (s : ℕ). c.before.Kept-line.new.1.0 ≡ tabulate (length A.line.now) (quartered s A.sums.now))
-    (sym c.if-sub-eq0.true) c.before.Kept-line.ensures
+    subst (λ (s : ℕ). c.kept_line.new.line ≡ tabulate (length A.line.now) (quartered s A.sums.now))
+    (sym c.if-sub-eq0.true) c.kept_line.ensures
 
 returns-2 : tie.Need-returns-else-sub-eq0
 returns-2 c =

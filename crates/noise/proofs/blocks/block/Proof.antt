@@ -42,7 +42,7 @@ multiplied c = product_is c.requires.0 (omega arith) _ (omega arith) (record { s
 added : (c : tie.After-y-1 invariant-loop decreases-loop) → let A = c.args in
     let H = c.loop-i in
     let k = A.from + H.i in
-    Is w32 (to_z w32 H.sum +ℤ to_z w32 (of_z w32 (wide (at A.p.now k) *ℤ wide (at A.q.now k)))) (span (product A.p.now A.q.now) A.from (H.i + 1))
+    Is w32 (to_z w32 H.sum-bits +ℤ to_z w32 (of_z w32 (wide (at A.p.now k) *ℤ wide (at A.q.now k)))) (span (product A.p.now A.q.now) A.from (H.i + 1))
 added c = block-turn c.requires.0 (omega arith) _ _ (omega arith) (omega arith) c.loop-i.invariant.1 (again (multiplied c)).eq
 
 loop-again : tie.Need-loop-i-preserved invariant-loop decreases-loop

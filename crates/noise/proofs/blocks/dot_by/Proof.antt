@@ -27,22 +27,22 @@ loop-holds c = (refl, omega arith, refl)
 -- the sum with a block more
 added : (c : tie.After-block-part invariant-loop decreases-loop) → let A = c.args in
     let H = c.loop-from in
-    Is w64 (to_z w64 H.sum +ℤ to_z w64 (of_z w64 (to_z w32 (of_z w32 c.block-part.result)))) (sum_to (product A.p.now A.q.now) (H.from + A.size))
+    Is w64 (to_z w64 H.sum-bits +ℤ to_z w64 (of_z w64 (to_z w32 (of_z w32 c.block-part.result)))) (sum_to (product A.p.now A.q.now) (H.from + A.size))
 added c =
     let H = c.loop-from in
-    line-turn c.requires.0 c.requires.1 H.from c.args.size c.block-part.result (omega arith) H.invariant.2 (record { sfits = c.block-part.type-inv }) c.block-part.ensures
+    line-turn c.requires.0 c.requires.1 H.from c.args.size c.block-part.result (omega arith) H.invariant.2 (record { sfits = c.block-part.type_inv }) c.block-part.ensures
 
 loop-again : tie.Need-loop-from-preserved invariant-loop decreases-loop
 loop-again c = (refl, omega arith, (again (added c)).eq)
 
 -- and with what is left
 finished : (c : tie.After-block-rest invariant-loop decreases-loop) → let A = c.args in
-    Is w64 (to_z w64 c.loop-from.sum +ℤ to_z w64 (of_z w64 (to_z w32 (of_z w32 c.block-rest.result)))) (sum_to (product A.p.now A.q.now) (length A.p.now))
+    Is w64 (to_z w64 c.loop-from.sum-bits +ℤ to_z w64 (of_z w64 (to_z w32 (of_z w32 c.block-rest.result)))) (sum_to (product A.p.now A.q.now) (length A.p.now))
 finished c =
     let H = c.loop-from in
     let n = length c.args.p.now in
     let e : H.from + (n - H.from) ≡ n = omega arith in
-    rw e at (line-turn c.requires.0 c.requires.1 H.from (n - H.from) c.block-rest.result (omega arith) H.invariant.2 (record { sfits = c.block-rest.type-inv }) c.block-rest.ensures)
+    rw e at (line-turn c.requires.0 c.requires.1 H.from (n - H.from) c.block-rest.result (omega arith) H.invariant.2 (record { sfits = c.block-rest.type_inv }) c.block-rest.ensures)
 
 returns : tie.Need-returns invariant-loop decreases-loop
 returns c = (again (finished c)).eq
@@ -56,13 +56,13 @@ dot_by_spec =
     loop-holds
     (λ c. search rules)
     (λ c κs. (c.requires.0, omega arith))
-    (λ c. fits (wide64 c.block-part.result (record { sfits = c.block-part.type-inv })))
+    (λ c. fits (wide64 c.block-part.result (record { sfits = c.block-part.type_inv })))
     (λ c. fits (added c))
     (λ c. search rules)
     (λ c. search rules)
     loop-again
     (λ c. search rules)
     (λ c κs. (fewer _ (omega arith) c.requires.0, omega arith))
-    (λ c. fits (wide64 c.block-rest.result (record { sfits = c.block-rest.type-inv })))
+    (λ c. fits (wide64 c.block-rest.result (record { sfits = c.block-rest.type_inv })))
     (λ c. fits (finished c))
     returns)

@@ -1,4 +1,5 @@
 -- `noise::line::noise_places` meets its contract: the places passed are filled with their noise. Assumes nothing.
+use mir.Syntax.{w16}
 use mathlib.Core.Path.{◌∙◌}
 use Prim.Native.Nat.{◌+◌, ◌*◌, ◌-◌, ◌^◌}
 use native.Mathlib.Omega.{arith}
@@ -24,7 +25,7 @@ here c = low-at c.requires c.loop-i-test.true
 loop-again : tie.Need-loop-i-preserved invariant-loop decreases-loop
 loop-again c =
     let n = c.noise_at in
-    fill-turn _ _ _ c.loop-i.invariant c.loop-i-test.true ((again (self (record { sfits = n.type-inv }))).eq ∙ n.ensures)
+    fill-turn _ _ _ c.loop-i.invariant c.loop-i-test.true ((again {w = w16} (self (record { sfits = n.type_inv }))).eq ∙ n.ensures)
 
 returns : tie.Need-returns invariant-loop decreases-loop
 returns c = fill-ends _ _ c.loop-i.invariant (search rules)

@@ -1,4 +1,5 @@
 -- `noise::rows::row_pair` meets its contract: both lines hold the noise, and `dot` sums their products. Assumes nothing.
+use mir.Syntax.{w64}
 use mathlib.Core.Path.{◌≡◌, refl, sym, ◌∙◌, subst}
 use Prim.Native.Nat.{ℕ, ◌+◌, ◌*◌, ◌^◌}
 use borrow.Author.Rules.{rules}
@@ -45,8 +46,8 @@ returns c =
     let q = second c.before.before in
     let d = c.dot-second in
     record {
-      second = (again (self (record { sfits = d.type-inv }))).eq ∙ d.ensures ∙ noise-sum c.requires.1 c.requires.1 q q;
-      cross = (again (self (record { sfits = c.dot-cross.type-inv }))).eq ∙ c.dot-cross.ensures ∙ noise-sum c.requires.0 c.requires.1 c.noise_line.ensures q;
+      second = (again {w = w64} (self (record { sfits = d.type_inv }))).eq ∙ d.ensures ∙ noise-sum c.requires.1 c.requires.1 q q;
+      cross = (again {w = w64} (self (record { sfits = c.dot-cross.type_inv }))).eq ∙ c.dot-cross.ensures ∙ noise-sum c.requires.0 c.requires.1 c.noise_line.ensures q;
     }
 
 pub row_pair_spec : {M : Type 1} → statement M

@@ -44,8 +44,7 @@ add_r c = record { fits = omega (arith, c.requires.0.low) }
 loop-again : tie.Need-loop-r-preserved invariant-loop decreases-loop
 loop-again c =
     let H = c.loop-r in
-    let kept = c.row_pair-row.auto.p in
-    (omega arith, kept.0 ∙ H.invariant.1, kept.1.0 ∙ H.invariant.2, rw c.pair_plus-total.ensures (grown c.before.before.before))
+    (omega arith, c.row_pair-row.auto.p ∙ H.invariant.1, c.row_pair-row.auto.q ∙ H.invariant.2, rw c.pair_plus-total.ensures (grown c.before.before.before))
 
 returns : tie.Need-returns invariant-loop decreases-loop
 returns c = let e : c.loop-r.r ≡ c.args.view.height = omega arith in rw e at c.loop-r.invariant.3

@@ -1,4 +1,5 @@
 -- `noise::sums::lagged_dot` meets its contract: it is the dot product of two parts. Assumes nothing.
+use mir.Syntax.{w64}
 use mathlib.Core.Path.{sym, ◌∙◌}
 use borrow.Author.Rules.{rules}
 use Rattle.laws.proofs.Is.{again, self}
@@ -8,7 +9,7 @@ use Rattle.noise.proofs.sums.lagged_dot.Tie as tie
 
 returns : tie.Need-returns
 returns c =
-    (again (self (record { sfits = c.dot.type-inv }))).eq ∙ c.dot.ensures ∙ lagged-sum c.requires.0 c.requires.1
+    (again {w = w64} (self (record { sfits = c.dot.type_inv }))).eq ∙ c.dot.ensures ∙ lagged-sum c.requires.0 c.requires.1
 
 pub lagged_dot_spec : {M : Type 1} → statement M
 lagged_dot_spec =

@@ -1,4 +1,5 @@
 -- `noise::sums::row_sums` meets its contract: the line holds the noise, and each sum is one over it. Assumes nothing.
+use mir.Syntax.{w64}
 use mathlib.Core.Path.{refl, sym, ◌∙◌}
 use native.Mathlib.Nat.{le_trans, le_of_eq}
 use borrow.Author.Rules.{rules}
@@ -25,7 +26,7 @@ shifted-energy-requires : tie.Need-shifted_energy-squares-requires
 shifted-energy-requires c κs =
     let e = c.noise_line.ensures in
     let d = c.dot-energy in
-    (is-noise c.requires.0 e c.requires.1, c.requires.4, c.requires.2 ∙ sym (size _ _ e), (again (self (record { sfits = d.type-inv }))).eq ∙ d.ensures)
+    (is-noise c.requires.0 e c.requires.1, c.requires.4, c.requires.2 ∙ sym (size _ _ e), (again {w = w64} (self (record { sfits = d.type_inv }))).eq ∙ d.ensures)
 
 returns : tie.Need-returns
 returns c =
@@ -34,9 +35,9 @@ returns c =
     let g = c.lagged_dot-lagged in
     let s = c.shifted_energy-squares in
     record {
-      squares = (again (self (record { sfits = s.type-inv }))).eq ∙ s.ensures ∙ squares-are c.requires.0 e c.args.shift;
-      energy = (again (self (record { sfits = d.type-inv }))).eq ∙ d.ensures ∙ noise-sum c.requires.0 c.requires.0 e e;
-      lagged = (again (self (record { sfits = g.type-inv }))).eq ∙ g.ensures ∙ lagged-are c.requires.0 e c.args.lag;
+      squares = (again {w = w64} (self (record { sfits = s.type_inv }))).eq ∙ s.ensures ∙ squares-are c.requires.0 e c.args.shift;
+      energy = (again {w = w64} (self (record { sfits = d.type_inv }))).eq ∙ d.ensures ∙ noise-sum c.requires.0 c.requires.0 e e;
+      lagged = (again {w = w64} (self (record { sfits = g.type_inv }))).eq ∙ g.ensures ∙ lagged-are c.requires.0 e c.args.lag;
     }
 
 pub row_sums_spec : {M : Type 1} → statement M

@@ -1,4 +1,5 @@
 -- `noise::sums::shifted_energy` meets its contract: the shifted line is filled, and `dot` sums its squares; shifted by nothing, they are the line's own. Assumes nothing.
+use mir.Syntax.{w64}
 use mathlib.Core.Path.{refl, ◌∙◌}
 use native.Mathlib.Nat.{le_refl}
 use borrow.Author.Rules.{rules}
@@ -12,7 +13,7 @@ use Rattle.noise.proofs.sums.shifted_energy.Tie as tie
 returns : tie.Need-returns-then-shift-eq0
 returns c =
     let L = c.requires.0 in
-    (again (known c.requires.3 (line-lt (lines L L refl) (lit≤ tt) _ (le_refl _)))).eq ∙ unshifted c.args.line.now c.if-shift-eq0.true
+    (again {w = w64} (known c.requires.3 (line-lt (lines L L refl) (lit≤ tt) _ (le_refl _)))).eq ∙ unshifted c.args.line.now c.if-shift-eq0.true
 
 dot-requires : tie.Need-dot-requires
 dot-requires c κs =
@@ -20,7 +21,7 @@ dot-requires c κs =
 
 returns-2 : tie.Need-returns
 returns-2 c =
-    (again (self (record { sfits = c.dot.type-inv }))).eq
+    (again {w = w64} (self (record { sfits = c.dot.type_inv }))).eq
     ∙ c.dot.ensures
     ∙ shifted_sum c.requires.0 c.args.shift c.requires.2 c.shifted_line.ensures
 
