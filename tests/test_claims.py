@@ -183,7 +183,9 @@ class Claims(unittest.TestCase):
         # All of a module is: kept_inside too.
         for line in ('pub use inner::*;', 'pub mod inner;'):
             self.assertEqual(len(self.found(PUBLIC, **self.changed('crates/one/src/lib.rt', both, line))), 1, line)
-        # An export, with its attribute on its line.
+        # An export, in whatever module, and with its attribute on its line.
+        code = {'crates/grain/src/lib.rt': 'mod bumps;\n', 'crates/grain/src/bumps.rt': GRAIN}
+        self.assertEqual(len(self.found(PUBLIC.replace('`grain/src/lib.rt:grain_bump`', ''), **code)), 1)
         code = self.changed('crates/grain/src/lib.rt', '#[unsafe(no_mangle)]\n', '#[unsafe(no_mangle)] ')
         self.assertEqual(len(self.found(PUBLIC.replace('`grain/src/lib.rt:grain_bump`', ''), **code)), 1)
 
@@ -201,6 +203,10 @@ class Claims(unittest.TestCase):
             path = f'crates/one/src/{path}.rt'
             self.assertEqual(len(self.found(PUBLIC, **{path: FILES[path] + TRAIT % (words, clause)})), wrong, (path, words, clause))
         self.assertEqual(self.found(PUBLIC + ' `one/src/lib.rt:grown`', **{'crates/one/src/lib.rt': CODE + TRAIT % ('pub ', 'ensures')}), [])
+        # What the next one states is not said of it.
+        other = TRAIT.replace('Self\n', 'Self;\n    fn other(self) -> Self\n') % ('pub ', 'ensures')
+        cited = PUBLIC + ' `one/src/lib.rt:grown` `one/src/lib.rt:other`'
+        self.assertEqual(len(self.found(cited, **{'crates/one/src/lib.rt': CODE + other})), 1)
 
     def test_precondition_left_out(self):
         self.assertEqual(len(self.found(PUBLIC, TABLES.replace('`kept_inside`', ''))), 1)
