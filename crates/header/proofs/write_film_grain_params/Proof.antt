@@ -11,43 +11,43 @@ use Rattle.header.proofs.Answers.{refused-4, refused-10, refused-11, answered}
 use Rattle.header.proofs.write_film_grain_params.Statement.{statement}
 use Rattle.header.proofs.write_film_grain_params.Tie as tie
 
-returns : tie.Need-returns
+returns : tie.Need-returns-then-not-format_known
 returns c =
-    let A = c.before.before.before.before.args in
-    refused-4 (stored A.p.now) A.inter A.format A.dst.now c.refused.ensures (sym c.before.before.format-known.ensures ∙ not-true _ c.before.if1.true)
+    let A = c.args in
+    refused-4 (stored A.p.now) A.inter A.format A.dst.now c.refused.ensures (sym c.format_known.ensures ∙ c.if-not-format_known.true)
 
-returns-2 : tie.Need-returns-2
+returns-2 : tie.Need-returns-then-not-fields_allowed
 unfolding counts_of
 returns-2 c =
-    let A = c.before.before.before.before.before.before.before.before.args in
-    let f = c.before.before.before.before.fields-of in
-    let counts = c.before.before.before.Counts-of in
+    let A = c.args in
+    let f = c.fields_of-f in
+    let counts = c.counts_of-c in
     rw (← record_is f.result A.p.now f.ensures)
-    (refused-10 (record_of f.result A.p.now) A.inter A.format A.dst.now counts.result counts.ensures (sym c.before.before.before.before.before.before.format-known.ensures ∙ not-false _ c.before.before.before.before.before.if1.false)
-    (sym (not-true _ c.before.if2.true) ∙ c.before.before.fields-allowed.ensures) c.refused2.ensures)
+    (refused-10 (record_of f.result A.p.now) A.inter A.format A.dst.now counts.result counts.ensures (sym c.format_known.ensures ∙ c.if-not-format_known.false)
+    (sym c.if-not-fields_allowed.true ∙ c.fields_allowed.ensures) c.refused-then-not-fields_allowed.ensures)
 
-returns-3 : tie.Need-returns-3
+returns-3 : tie.Need-returns-then-dst-bits
 unfolding counts_of opening_size size_of
 returns-3 c =
-    let A = c.before.before.before.before.before.before.before.before.before.before.args in
-    let f = c.before.before.before.before.before.before.fields-of in
-    let counts = c.before.before.before.before.before.Counts-of in
+    let A = c.args in
+    let f = c.fields_of-f in
+    let counts = c.counts_of-c in
     rw (← record_is f.result A.p.now f.ensures)
-    (refused-11 (record_of f.result A.p.now) A.inter A.format A.dst.now counts.result counts.ensures (sym c.before.before.before.before.before.before.before.before.format-known.ensures ∙ not-false _ c.before.before.before.before.before.before.before.if1.false)
-    (sym (not-false _ c.before.before.before.if2.false) ∙ c.before.before.before.before.fields-allowed.ensures) _ c.before.before.type_size.ensures.0 c.refused3.ensures c.before.if3.true)
+    (refused-11 (record_of f.result A.p.now) A.inter A.format A.dst.now counts.result counts.ensures (sym c.format_known.ensures ∙ c.if-not-format_known.false)
+    (sym c.if-not-fields_allowed.false ∙ c.fields_allowed.ensures) _ c.before.before.size_of-bits.ensures.0 c.refused-then-dst-bits.ensures c.if-dst-bits.true)
 
-returns-4 : tie.Need-returns-4
+returns-4 : tie.Need-returns
 unfolding counts_of opening_size size_of
 returns-4 c =
-    let A = c.before.before.before.before.before.before.before.before.before.before.before.before.before.args in
-    let f = c.before.before.before.before.before.before.before.before.before.fields-of in
-    let counts = c.before.before.before.before.before.before.before.before.Counts-of in
+    let A = c.args in
+    let f = c.fields_of-f in
+    let counts = c.counts_of-c in
     rw (← record_is f.result A.p.now f.ensures)
-    (answered (record_of f.result A.p.now) A.inter A.format A.dst.now counts.result counts.ensures (sym c.before.before.before.before.before.before.before.before.before.before.before.format-known.ensures ∙ not-false _ c.before.before.before.before.before.before.before.before.before.before.if1.false)
-    (sym (not-false _ c.before.before.before.before.before.before.if2.false) ∙ c.before.before.before.before.before.before.before.fields-allowed.ensures) _ c.before.before.before.before.before.type_size.ensures.0 c.before.before.put-header.ensures c.before.before.before.before.if3.false)
+    (answered (record_of f.result A.p.now) A.inter A.format A.dst.now counts.result counts.ensures (sym c.format_known.ensures ∙ c.if-not-format_known.false)
+    (sym c.if-not-fields_allowed.false ∙ c.fields_allowed.ensures) _ c.before.before.before.before.before.size_of-bits.ensures.0 c.put_header.ensures c.if-dst-bits.false)
 
-pub write-film-grain-params-spec : {M : Type 1} → statement M
-write-film-grain-params-spec =
+pub write_film_grain_params_spec : {M : Type 1} → statement M
+write_film_grain_params_spec =
     tie.close
     (tie.spec
     (λ c κs. search rules)

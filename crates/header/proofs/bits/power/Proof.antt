@@ -10,5 +10,5 @@ returns c =
     let h = pow_mono c.requires in
     (omega (arith, h), omega (arith, h, pow_pos c.args.n), omega (arith, h))
 
-pub power-spec : {M : Type 1} → statement M
-power-spec = tie.close (tie.spec (λ c. search rules) (λ c. search rules) returns)
+pub power_spec : {M : Type 1} → statement M
+power_spec = tie.close (tie.spec (λ c. search rules) (λ c. search rules) returns)

@@ -9,47 +9,42 @@ use Rattle.header.proofs.Holding.{held_more, put_low}
 use Rattle.header.proofs.bits.put.Statement.{statement}
 use Rattle.header.proofs.bits.put.Tie as tie
 
-mul-pending : tie.Need-overflow-mul-pending
+mul-pending : tie.Need-overflow_mul-pending
 mul-pending c =
-    let S = c.before.before.before.before in
-    let w = S.args.w in
-    let h = put_low w.count w.pending S.args.bits S.args.value _ S.requires.0.short S.requires.0.low S.requires.2 c.before.before.power.ensures.0 in
+    let w = c.args.w in
+    let h = put_low w.count w.pending c.args.bits c.args.value _ c.requires.0.short c.requires.0.low c.requires.2 c.power-p.ensures.0 in
     omega (arith, h.0, h.1)
 
-add-pending : tie.Need-overflow-add-pending
+add-pending : tie.Need-overflow_add-pending
 add-pending c =
-    let S = c.before.before.before.before in
-    let w = S.args.w in
-    let h = put_low w.count w.pending S.args.bits S.args.value _ S.requires.0.short S.requires.0.low S.requires.2 c.before.before.power.ensures.0 in
+    let w = c.args.w in
+    let h = put_low w.count w.pending c.args.bits c.args.value _ c.requires.0.short c.requires.0.low c.requires.2 c.power-p.ensures.0 in
     omega (arith, h.0, h.1)
 
-returns : tie.Need-returns
+returns : tie.Need-returns-then-count-lt8
 returns c =
-    let S = c.before.before.before.before.before in
-    let w = S.args.w in
-    let e = c.before.before.before.power.ensures.0 in (
-      record { puts = λ from bs h. rw e (held_more h S.args.bits S.args.value) },
-      record { short = c.if1.true; low = (put_low w.count w.pending S.args.bits S.args.value _ S.requires.0.short S.requires.0.low S.requires.2 e).0 },
+    let w = c.args.w in
+    let e = c.power-p.ensures.0 in (
+      record { puts = λ from bs h. rw e (held_more h c.args.bits c.args.value) },
+      record { short = c.if-count-lt8.true; low = (put_low w.count w.pending c.args.bits c.args.value _ c.requires.0.short c.requires.0.low c.requires.2 e).0 },
       omega arith,
     )
 
-put-first-requires : tie.Need-put-first-requires
+put-first-requires : tie.Need-put_first-requires
 put-first-requires c κs =
-    let S = c.before.before.before.before.before.before in
-    let w = S.args.w in
-    let e = c.before.before.before.before.power.ensures.0 in
-    let h = (put_low w.count w.pending S.args.bits S.args.value _ S.requires.0.short S.requires.0.low S.requires.2 e).0 in
-    let l : 8 + (w.count + S.args.bits - 8) ≡ w.count + S.args.bits = omega arith in
-    (S.requires.1, omega (arith, S.requires.0.short, S.requires.2), rw l h)
+    let w = c.args.w in
+    let e = c.power-p.ensures.0 in
+    let h = (put_low w.count w.pending c.args.bits c.args.value _ c.requires.0.short c.requires.0.low c.requires.2 e).0 in
+    let l : 8 + (w.count + c.args.bits - 8) ≡ w.count + c.args.bits = omega arith in
+    (c.requires.1, omega (arith, c.requires.0.short, c.requires.2), rw l h)
 
-returns-2 : tie.Need-returns-2
+returns-2 : tie.Need-returns
 returns-2 c =
-    let S = c.before.before.before.before.before.before.before.before.before in
-    let w = S.args.w in
-    let e = c.before.before.before.before.before.before.before.power.ensures.0 in
-    let f = c.before.before.put_first.ensures in
-    let l : w.count + S.args.bits ≡ w.count + S.args.bits - 8 + 8 = omega arith in (
-      record { puts = λ from bs h. f.0 from (bs ++ digits S.args.bits S.args.value) (rw e (rw l at (held_more h S.args.bits S.args.value))) },
+    let w = c.args.w in
+    let e = c.power-p.ensures.0 in
+    let f = c.put_first.ensures in
+    let l : w.count + c.args.bits ≡ w.count + c.args.bits - 8 + 8 = omega arith in (
+      record { puts = λ from bs h. f.0 from (bs ++ digits c.args.bits c.args.value) (rw e (rw l at (held_more h c.args.bits c.args.value))) },
       f.1,
       omega (arith, f.2),
     )

@@ -7,29 +7,27 @@ use Rattle.header.proofs.Holding.{held-stored, held-past}
 use Rattle.header.proofs.bits.put_first.Statement.{statement}
 use Rattle.header.proofs.bits.put_first.Tie as tie
 
-returns : tie.Need-returns
+returns : tie.Need-returns-then-dst-at
 returns c =
-    let S = c.before.before.before in
-    let e = c.before.power.ensures.0 in (
-      λ from bs h. rw e (held-past S.args.rest h c.if1.true),
-      record { short = S.requires.1; low = rw e (mod-lt S.args.pending (pow_pos S.args.rest)) },
+    let e = c.power-p.ensures.0 in (
+      λ from bs h. rw e (held-past c.args.rest h c.if-dst-at.true),
+      record { short = c.requires.1; low = rw e (mod-lt c.args.pending (pow_pos c.args.rest)) },
       omega arith,
     )
 
-cast-dst-2 : tie.Need-overflow-cast-dst-2
-cast-dst-2 c = let S = c.before.before.before in omega (arith, shr_lt {n = S.args.pending} 8 S.args.rest S.requires.2)
+cast-dst-2 : tie.Need-overflow_cast-dst-2
+cast-dst-2 c = omega (arith, shr_lt {n = c.args.pending} 8 c.args.rest c.requires.2)
 
-returns-2 : tie.Need-returns-2
+returns-2 : tie.Need-returns
 returns-2 c =
-    let S = c.before.before.before in
-    let e = c.before.power.ensures.0 in (
-      λ from bs h. rw e (held-stored S.args.rest h),
-      record { short = S.requires.1; low = rw e (mod-lt S.args.pending (pow_pos S.args.rest)) },
+    let e = c.power-p.ensures.0 in (
+      λ from bs h. rw e (held-stored c.args.rest h),
+      record { short = c.requires.1; low = rw e (mod-lt c.args.pending (pow_pos c.args.rest)) },
       omega arith,
     )
 
-pub put-first-spec : {M : Type 1} → statement M
-put-first-spec =
+pub put_first_spec : {M : Type 1} → statement M
+put_first_spec =
     tie.close
     (tie.spec
     (λ c κs. search rules)

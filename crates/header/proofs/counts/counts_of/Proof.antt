@@ -16,28 +16,28 @@ with-tap : (b : Bool) (n : ℕ) → n + cond b 1 0 ≡ cond b (n + 1) n
 with-tap true n = refl
 with-tap false n = omega arith
 
-returns : tie.Need-returns
+returns : tie.Need-returns-then-not-coded
 returns c =
-    let A = c.before.before.args in
-    sym (nothing (scalars A.f) A.format (not-true _ c.if1.true))
+    let A = c.args in
+    sym (nothing (scalars A.f) A.format c.if-not-coded.true)
 
-returns-2 : tie.Need-returns-2
+returns-2 : tie.Need-returns
 unfolding counts_of
 returns-2 c =
     rw (
-      c.kept7.ensures.0,
-      c.before.kept6.ensures.0,
-      c.before.before.kept5.ensures.0,
-      c.before.before.before.before.kept4.ensures.0,
-      c.before.before.before.before.before.num-pos-luma.ensures.0,
-      c.before.before.before.before.before.before.kept3.ensures.0,
-      c.before.before.before.before.before.before.before.before.kept2.ensures.0,
-      c.before.before.before.before.before.before.before.before.before.before.before.kept.ensures.0,
+      c.kept-4.ensures.0,
+      c.kept-3.ensures.0,
+      c.kept-2.ensures.0,
+      c.kept.ensures.0,
+      c.num_pos_luma-luma.ensures.0,
+      c.kept-cr_points.ensures.0,
+      c.kept-cb_points.ensures.0,
+      c.kept-y_points.ensures.0,
       with-tap _ _,
     )
 
-pub counts-of-spec : {M : Type 1} → statement M
-counts-of-spec =
+pub counts_of_spec : {M : Type 1} → statement M
+counts_of_spec =
     tie.close
     (tie.spec
     returns

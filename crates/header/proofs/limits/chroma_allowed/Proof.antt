@@ -10,21 +10,21 @@ returns : tie.Need-returns
 unfolding chroma_part all_allowed
 returns c =
     rw (
-      c.points-allowed2.ensures,
-      c.before.is-allowed3.ensures,
-      c.before.before.wide2.ensures,
-      c.before.before.before.points-allowed.ensures,
-      c.before.before.before.before.is-allowed2.ensures,
-      c.before.before.before.before.before.wide.ensures,
-      c.before.before.before.before.before.before.is-allowed.ensures,
-      c.before.before.before.before.before.before.before.flag2.ensures,
-      c.before.before.before.before.before.before.before.before.before.most-cr-points.ensures,
-      c.before.before.before.before.before.before.before.before.before.before.flag.ensures,
+      c.points_allowed-2.ensures,
+      c.is_allowed-3.ensures,
+      c.wide-2.ensures,
+      c.points_allowed.ensures,
+      c.is_allowed-2.ensures,
+      c.wide.ensures,
+      c.is_allowed.ensures,
+      c.flag.ensures,
+      c.most_cr_points-most.ensures,
+      c.flag-least.ensures,
       allowed-append _ _,
     )
 
-pub chroma-allowed-spec : {M : Type 1} → statement M
-chroma-allowed-spec =
+pub chroma_allowed_spec : {M : Type 1} → statement M
+chroma_allowed_spec =
     tie.close
     (tie.spec
     (λ c κs. search rules)

@@ -11,23 +11,23 @@ returns : tie.Need-returns
 unfolding closing all_allowed
 returns c =
     rw (
-      c.is-allowed4.ensures,
-      c.before.flag2.ensures,
-      c.before.before.is-allowed3.ensures,
-      c.before.before.before.flag.ensures,
-      c.before.before.before.before.is-allowed2.ensures,
-      c.before.before.before.before.before.wide2.ensures,
-      c.before.before.before.before.before.before.is-allowed.ensures,
-      c.before.before.before.before.before.before.before.wide.ensures,
-      c.before.before.before.before.before.before.before.before.mix-allowed2.ensures,
-      c.before.before.before.before.before.before.before.before.before.before.mix-allowed.ensures,
+      c.is_allowed-4.ensures,
+      c.flag-2.ensures,
+      c.is_allowed-3.ensures,
+      c.flag.ensures,
+      c.is_allowed-2.ensures,
+      c.wide-2.ensures,
+      c.is_allowed.ensures,
+      c.wide.ensures,
+      c.mix_allowed-cr.ensures,
+      c.mix_allowed-cb.ensures,
       three-then _ _ _ _,
       three-then _ _ _ _,
       and-true _,
     )
 
-pub closing-allowed-spec : {M : Type 1} → statement M
-closing-allowed-spec =
+pub closing_allowed_spec : {M : Type 1} → statement M
+closing_allowed_spec =
     tie.close
     (tie.spec
     (λ c κs. search rules)

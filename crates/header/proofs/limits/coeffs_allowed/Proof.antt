@@ -4,10 +4,10 @@ use Rattle.header.proofs.limits.coeffs_allowed.Statement.{statement}
 use Rattle.header.proofs.limits.coeffs_allowed.Tie as tie
 
 returns : tie.Need-returns
-returns c = rw (c.coeffs-of.ensures, c.before.list.ensures.1, c.before.list.ensures.0)
+returns c = rw (c.coeffs_of.ensures, c.list.ensures.1, c.list.ensures.0)
 
-pub coeffs-allowed-spec : {M : Type 1} → statement M
-coeffs-allowed-spec =
+pub coeffs_allowed_spec : {M : Type 1} → statement M
+coeffs_allowed_spec =
     tie.close
     (tie.spec
     (λ c κs. search rules)

@@ -9,12 +9,12 @@ use Rattle.header.proofs.limits.fields_allowed.Tie as tie
 returns : tie.Need-returns
 unfolding opening table
 returns c =
-    let A = c.before.before.args in
+    let A = c.args in
     let p = record_of A.f A.p.now in
-    rw (c.rest-allowed.ensures, c.before.opening-allowed.ensures, allowed-append (opening p A.inter) (rest p A.format A.c))
+    rw (c.rest_allowed.ensures, c.opening_allowed.ensures, allowed-append (opening p A.inter) (rest p A.format A.c))
 
-pub fields-allowed-spec : {M : Type 1} → statement M
-fields-allowed-spec =
+pub fields_allowed_spec : {M : Type 1} → statement M
+fields_allowed_spec =
     tie.close
     (tie.spec
     (λ c κs. search rules)

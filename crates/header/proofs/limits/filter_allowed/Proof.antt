@@ -10,19 +10,19 @@ returns : tie.Need-returns
 unfolding filter_part all_allowed
 returns c =
     rw (
-      c.coeffs-allowed3.ensures,
-      c.before.coeffs-allowed2.ensures,
-      c.before.before.coeffs-allowed.ensures,
-      c.before.before.before.is-allowed2.ensures,
-      c.before.before.before.before.wide2.ensures,
-      c.before.before.before.before.before.is-allowed.ensures,
-      c.before.before.before.before.before.before.wide.ensures,
+      c.coeffs_allowed-3.ensures,
+      c.coeffs_allowed-2.ensures,
+      c.coeffs_allowed.ensures,
+      c.is_allowed-2.ensures,
+      c.wide-2.ensures,
+      c.is_allowed.ensures,
+      c.wide.ensures,
       allowed-append _ _,
       allowed-append _ _,
     )
 
-pub filter-allowed-spec : {M : Type 1} → statement M
-filter-allowed-spec =
+pub filter_allowed_spec : {M : Type 1} → statement M
+filter_allowed_spec =
     tie.close
     (tie.spec
     (λ c κs. search rules)

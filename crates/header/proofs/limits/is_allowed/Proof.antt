@@ -3,16 +3,16 @@ use Rattle.header.specs.Row.{allowed}
 use Rattle.header.proofs.limits.is_allowed.Statement.{statement}
 use Rattle.header.proofs.limits.is_allowed.Tie as tie
 
-returns : tie.Need-returns
+returns : tie.Need-returns-then-present
 unfolding allowed
-returns c = rw c.if1.true
+returns c = rw c.if-present.true
 
-returns-2 : tie.Need-returns-2
+returns-2 : tie.Need-returns
 unfolding allowed
-returns-2 c = rw c.if1.false
+returns-2 c = rw c.if-present.false
 
-pub is-allowed-spec : {M : Type 1} → statement M
-is-allowed-spec =
+pub is_allowed_spec : {M : Type 1} → statement M
+is_allowed_spec =
     tie.close
     (tie.spec
     returns

@@ -7,10 +7,10 @@ use Rattle.header.proofs.limits.luma_allowed.Tie as tie
 
 returns : tie.Need-returns
 unfolding luma_part all_allowed
-returns c = rw (c.points-allowed.ensures, c.before.is-allowed.ensures, c.before.before.wide.ensures)
+returns c = rw (c.points_allowed.ensures, c.is_allowed.ensures, c.wide.ensures)
 
-pub luma-allowed-spec : {M : Type 1} → statement M
-luma-allowed-spec =
+pub luma_allowed_spec : {M : Type 1} → statement M
+luma_allowed_spec =
     tie.close
     (tie.spec
     (λ c κs. search rules)

@@ -6,15 +6,15 @@ use Rattle.header.proofs.limits.mix_allowed.Tie as tie
 returns : tie.Need-returns
 returns c =
     rw (
-      c.is-allowed3.ensures,
-      c.before.is-allowed2.ensures,
-      c.before.before.wide2.ensures,
-      c.before.before.before.is-allowed.ensures,
-      c.before.before.before.before.wide.ensures,
+      c.is_allowed-3.ensures,
+      c.is_allowed-2.ensures,
+      c.wide-2.ensures,
+      c.is_allowed.ensures,
+      c.wide.ensures,
     )
 
-pub mix-allowed-spec : {M : Type 1} → statement M
-mix-allowed-spec =
+pub mix_allowed_spec : {M : Type 1} → statement M
+mix_allowed_spec =
     tie.close
     (tie.spec
     (λ c κs. search rules)

@@ -2,14 +2,14 @@
 use Rattle.header.proofs.limits.most_cr_points.Statement.{statement}
 use Rattle.header.proofs.limits.most_cr_points.Tie as tie
 
-returns : tie.Need-returns
-returns c = rw c.if1.true
+returns : tie.Need-returns-then-format-cb_points
+returns c = rw c.if-format-cb_points.true
 
-returns-2 : tie.Need-returns-2
-returns-2 c = rw c.if1.false
+returns-2 : tie.Need-returns-else-format-cb_points
+returns-2 c = rw c.if-format-cb_points.false
 
-pub most-cr-points-spec : {M : Type 1} → statement M
-most-cr-points-spec =
+pub most_cr_points_spec : {M : Type 1} → statement M
+most_cr_points_spec =
     tie.close
     (tie.spec
     returns

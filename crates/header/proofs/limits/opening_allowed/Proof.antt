@@ -11,20 +11,20 @@ returns : tie.Need-returns
 unfolding opening all_allowed
 returns c =
     rw (
-      c.is-allowed4.ensures,
-      c.before.wide.ensures,
-      c.before.before.before.before.is-allowed3.ensures,
-      c.before.before.before.before.before.flag3.ensures,
-      c.before.before.before.before.before.before.flag2.ensures,
-      c.before.before.before.before.before.before.before.is-allowed2.ensures,
-      c.before.before.before.before.before.before.before.before.before.is-allowed.ensures,
-      c.before.before.before.before.before.before.before.before.before.before.flag.ensures,
-      update-most c.before.before.before.before.before.before.before.before.before.before.before.args.inter,
+      c.is_allowed-4.ensures,
+      c.wide.ensures,
+      c.is_allowed-3.ensures,
+      c.flag-3.ensures,
+      c.flag-2.ensures,
+      c.is_allowed-2.ensures,
+      c.is_allowed.ensures,
+      c.flag.ensures,
+      update-most c.args.inter,
       and-true _,
     )
 
-pub opening-allowed-spec : {M : Type 1} → statement M
-opening-allowed-spec =
+pub opening_allowed_spec : {M : Type 1} → statement M
+opening_allowed_spec =
     tie.close
     (tie.spec
     (λ c κs. search rules)

@@ -4,10 +4,10 @@ use Rattle.header.proofs.limits.points_allowed.Statement.{statement}
 use Rattle.header.proofs.limits.points_allowed.Tie as tie
 
 returns : tie.Need-returns
-returns c = rw (c.points-of.ensures, c.before.before.list.ensures.1, c.before.before.list.ensures.0, c.before.list2.ensures.0)
+returns c = rw (c.points_of.ensures, c.list.ensures.1, c.list.ensures.0, c.list-2.ensures.0)
 
-pub points-allowed-spec : {M : Type 1} → statement M
-points-allowed-spec =
+pub points_allowed_spec : {M : Type 1} → statement M
+points_allowed_spec =
     tie.close
     (tie.spec
     (λ c κs. search rules)

@@ -8,27 +8,26 @@ use Rattle.header.proofs.Bytes.{record_is}
 use Rattle.header.proofs.limits.rest_allowed.Statement.{statement}
 use Rattle.header.proofs.limits.rest_allowed.Tie as tie
 
-returns : tie.Need-returns
+returns : tie.Need-returns-then-not-c
 returns c =
-    let S = c.before.before.before in
-    let A = S.args in
-    rw (uncoded-counts (scalars A.f) A.format A.c S.requires.1 c.before.if1.true, record_is A.f A.p.now S.requires.0) (c.rest-skipped.ensures A.format)
+    let A = c.args in
+    rw (uncoded-counts (scalars A.f) A.format A.c c.requires.1 c.if-not-c.true, record_is A.f A.p.now c.requires.0) (c.rest_skipped.ensures A.format)
 
-returns-2 : tie.Need-returns-2
+returns-2 : tie.Need-returns
 unfolding luma_part chroma_part filter_part closing
 returns-2 c =
     rw (
-      c.closing-allowed.ensures,
-      c.before.filter-allowed.ensures,
-      c.before.before.chroma-allowed.ensures,
-      c.before.before.before.luma-allowed.ensures,
+      c.closing_allowed.ensures,
+      c.filter_allowed.ensures,
+      c.chroma_allowed.ensures,
+      c.luma_allowed.ensures,
       allowed-append _ _,
       allowed-append _ _,
       allowed-append _ _,
     )
 
-pub rest-allowed-spec : {M : Type 1} → statement M
-rest-allowed-spec =
+pub rest_allowed_spec : {M : Type 1} → statement M
+rest_allowed_spec =
     tie.close
     (tie.spec
     (λ c κs. search rules)

@@ -7,28 +7,28 @@ use Rattle.header.proofs.Bytes.{zeros, zeros-none, zeros-more, rest-zeros}
 use Rattle.header.proofs.limits.rest_skipped.Statement.{statement}
 use Rattle.header.proofs.limits.rest_skipped.Tie as tie
 
-abbrev invariant-loop : tie.invariant-loop
+abbrev invariant-loop : tie.invariant-loop-i
 invariant-loop p ok₀ i₀ ok i = (6 ≤ i) × (i ≤ 166) × (ok ≡ zeros p 6 (i - 6))
 
-abbrev decreases-loop : tie.decreases-loop
+abbrev decreases-loop : tie.decreases-loop-i
 decreases-loop p ok₀ i₀ ok i = 166 - i
 
-loop-holds : tie.Need-loop-init invariant-loop decreases-loop
+loop-holds : tie.Need-loop-i-init invariant-loop decreases-loop
 loop-holds c = (omega arith, omega arith, sym (zeros-none c.args.p.now 6))
 
-loop-again : tie.Need-loop-preserved invariant-loop decreases-loop
+loop-again : tie.Need-loop-i-preserved invariant-loop decreases-loop
 loop-again c =
-    let L = c.before.before.loop in
-    (omega arith, omega arith, rw (zeros-more c.before.before.before.args.p.now L.i L.invariant.0, L.invariant.2))
+    let L = c.loop-i in
+    (omega arith, omega arith, rw (zeros-more c.args.p.now L.i L.invariant.0, L.invariant.2))
 
 returns : tie.Need-returns invariant-loop decreases-loop
 returns c =
-    let L = c.before.loop in
+    let L = c.loop-i in
     let e : L.i ≡ 166 = omega arith in
-    λ format. rw e at L.invariant.2 ∙ rest-zeros c.before.before.args.p.now format
+    λ format. rw e at L.invariant.2 ∙ rest-zeros c.args.p.now format
 
-pub rest-skipped-spec : {M : Type 1} → statement M
-rest-skipped-spec =
+pub rest_skipped_spec : {M : Type 1} → statement M
+rest_skipped_spec =
     tie.close
     (tie.spec
     invariant-loop

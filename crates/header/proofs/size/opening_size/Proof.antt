@@ -8,10 +8,10 @@ use Rattle.header.proofs.size.opening_size.Tie as tie
 returns : tie.Need-returns
 unfolding opening_size
 returns c =
-    (rw (c.kept3.ensures.0, c.before.before.before.kept2.ensures.0, c.before.before.before.before.before.kept.ensures.0), omega (arith, c.kept3.ensures.1, c.before.before.before.kept2.ensures.1, c.before.before.before.before.before.kept.ensures.1))
+    (rw (c.kept-3.ensures.0, c.kept-2.ensures.0, c.kept.ensures.0), omega (arith, c.kept-3.ensures.1, c.kept-2.ensures.1, c.kept.ensures.1))
 
-pub opening-size-spec : {M : Type 1} → statement M
-opening-size-spec =
+pub opening_size_spec : {M : Type 1} → statement M
+opening_size_spec =
     tie.close
     (tie.spec
     (λ c κs. search rules)

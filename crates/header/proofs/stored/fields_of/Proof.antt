@@ -13,10 +13,10 @@ unfolding fields_of
 fields-are l a b c = rw (a, b, c)
 
 returns : tie.Need-returns
-returns c = fields-are c.before.before.before.before.before.before.before.before.before.before.before.before.before.before.before.before.before.before.before.before.before.before.before.before.before.before.args.p.now c.before.before.before.before.before.before.before.before.before.before.before.before.before.before.before.before.before.before.before.before.before.before.word.ensures c.before.before.before.before.before.before.before.word2.ensures c.before.before.word3.ensures
+returns c = fields-are c.args.p.now c.word.ensures c.word-2.ensures c.word-3.ensures
 
-pub fields-of-spec : {M : Type 1} → statement M
-fields-of-spec =
+pub fields_of_spec : {M : Type 1} → statement M
+fields_of_spec =
     tie.close
     (tie.spec
     (λ c. search rules)

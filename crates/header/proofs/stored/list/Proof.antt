@@ -10,12 +10,12 @@ use Rattle.header.proofs.stored.list.Tie as tie
 
 returns : tie.Need-returns
 returns c =
-    let A = c.before.before.args in
+    let A = c.args in
     let l : length A.p.now ≡ 168 = omega arith in
     rw (add-sub_cancel_left) (refl, length-take-le A.n (drop A.at A.p.now) (rw (length-drop A.at A.p.now, l) (omega arith)))
 
-pub list-spec : {M : Type 1} → statement M
-list-spec =
+pub list_spec : {M : Type 1} → statement M
+list_spec =
     tie.close
     (tie.spec
     (λ c. search rules)

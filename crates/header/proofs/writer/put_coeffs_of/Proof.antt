@@ -14,46 +14,45 @@ use Rattle.header.proofs.Lists.{none-bits, coeff-bits, coeff-none, past_end}
 use Rattle.header.proofs.writer.put_coeffs_of.Statement.{statement}
 use Rattle.header.proofs.writer.put_coeffs_of.Tie as tie
 
-abbrev invariant-loop : tie.invariant-loop
+abbrev invariant-loop : tie.invariant-loop-i
 invariant-loop dst₀ n values a₀ i₀ i-end dst a i = (i-end ≡ min n (length values)) × (i ≤ i-end) × (length dst ≡ length dst₀) × Ready a × (a.at ≤ a₀.at + i) × Put (bits_of (each i (coeff n values))) a₀ dst₀ a dst
 
-abbrev decreases-loop : tie.decreases-loop
+abbrev decreases-loop : tie.decreases-loop-i
 decreases-loop dst₀ n values a₀ i₀ i-end dst a i = i-end - i
 
-loop-holds : tie.Need-loop-init invariant-loop decreases-loop
+loop-holds : tie.Need-loop-i-init invariant-loop decreases-loop
 loop-holds c =
-    let S = c.before.before.before in
-    (c.smaller.ensures.0, omega arith, refl, S.requires.0, omega arith, put_as (sym (none-bits (coeff S.args.n S.args.values.now))) put-none)
+    (c.smaller-i-end.ensures.0, omega arith, refl, c.requires.0, omega arith, put_as (sym (none-bits (coeff c.args.n c.args.values.now))) put-none)
 
-shared-slice-read-put-byte : tie.Need-shared-slice-read-put-byte invariant-loop decreases-loop
-shared-slice-read-put-byte c = let L = c.before.before.before.loop in omega (arith, L.invariant.0)
+shared-slice-read-put-byte : tie.Need-bounds-values-i invariant-loop decreases-loop
+shared-slice-read-put-byte c = let L = c.loop-i in omega (arith, L.invariant.0)
 
-put-byte-requires : tie.Need-put-byte-requires invariant-loop decreases-loop
-put-byte-requires c κs = let S = c.before.before.before.before.before.before.before in let L = c.before.before.before.loop in (L.invariant.3, omega (arith, L.invariant.0, L.invariant.4, S.requires.1))
+put-byte-requires : tie.Need-put_byte-a-requires invariant-loop decreases-loop
+put-byte-requires c κs = let L = c.loop-i in (L.invariant.3, omega (arith, L.invariant.0, L.invariant.4, c.requires.1))
 
-loop-again : tie.Need-loop-preserved invariant-loop decreases-loop
+loop-again : tie.Need-loop-i-preserved invariant-loop decreases-loop
 loop-again c =
-    let A = c.before.before.before.before.before.before.before.before.before.before.args in
-    let L = c.before.before.before.before.before.before.loop in
-    let p = c.before.before.put_byte.ensures in
+    let A = c.args in
+    let L = c.loop-i in
+    let p = c.put_byte-a.ensures in
     let e = bits_each L.i (coeff A.n A.values.now) in
     let f = coeff-bits A.n A.values.now L.i (omega (arith, L.invariant.0)) in
-    (L.invariant.0, omega arith, c.before.before.put_byte.auto.0 ∙ L.invariant.2, p.1, omega (arith, L.invariant.4, p.2), rw (e, f) (put_then L.invariant.5 p.0))
+    (L.invariant.0, omega arith, c.put_byte-a.auto.dst ∙ L.invariant.2, p.1, omega (arith, L.invariant.4, p.2), rw (e, f) (put_then L.invariant.5 p.0))
 
-same_length : tie.Need-same-length invariant-loop decreases-loop
-same_length c = c.before.loop.invariant.2
+same_length : tie.Need-shape_of-dst invariant-loop decreases-loop
+same_length c = c.loop-i.invariant.2
 
 returns : tie.Need-returns invariant-loop decreases-loop
 unfolding coeffs
 returns c =
-    let A = c.before.before.before.before.before.args in
-    let L = c.before.loop in
+    let A = c.args in
+    let L = c.loop-i in
     let i : L.i ≡ min A.n (length A.values.now) = omega (arith, L.invariant.0) in
     let past = bits-past L.i (length A.values.now) (coeff A.n A.values.now) (omega arith) (λ k h l. coeff-none A.n A.values.now k (past_end (length A.values.now) A.n k (rw i at h) l)) in
     (rw past L.invariant.5, L.invariant.3, omega (arith, L.invariant.4))
 
-pub put-coeffs-of-spec : {M : Type 1} → statement M
-put-coeffs-of-spec =
+pub put_coeffs_of_spec : {M : Type 1} → statement M
+put_coeffs_of_spec =
     tie.close
     (tie.spec
     invariant-loop

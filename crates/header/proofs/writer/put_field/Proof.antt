@@ -6,15 +6,15 @@ use Rattle.header.proofs.Holding.{put-none}
 use Rattle.header.proofs.writer.put_field.Statement.{statement}
 use Rattle.header.proofs.writer.put_field.Tie as tie
 
-returns : tie.Need-returns
-returns c = rw c.before.before.before.before.if1.true c.before.before.put.ensures
+returns : tie.Need-returns-then-present
+returns c = rw c.if-present.true c.put.ensures
 
-returns-2 : tie.Need-returns-2
+returns-2 : tie.Need-returns
 unfolding digits
-returns-2 c = rw c.if1.false (put-none, c.before.before.requires.0, omega arith)
+returns-2 c = rw c.if-present.false (put-none, c.requires.0, omega arith)
 
-pub put-field-spec : {M : Type 1} → statement M
-put-field-spec =
+pub put_field_spec : {M : Type 1} → statement M
+put_field_spec =
     tie.close
     (tie.spec
     (λ c κs. search rules)

@@ -11,15 +11,15 @@ use Rattle.header.proofs.writer.put_header.Tie as tie
 returns : tie.Need-returns
 unfolding opening
 returns c =
-    let A = c.before.before.before.before.before.before.before.before.before.before.before.before.before.before.args in
-    let a = c.before.before.before.before.before.before.before.before.before.before.before.put-opening.ensures in
-    let b = c.before.before.before.before.before.before.before.put_rest.ensures in
-    let z = c.before.before.put.ensures in
+    let A = c.args in
+    let a = c.put_opening-a.ensures in
+    let b = c.put_rest-b.ensures in
+    let z = c.put.ensures in
     let p = (record_of A.f A.p.now) in
     put-packed (bits_of (table p A.inter A.format A.c)) (rw (table-bits p A.c A.inter A.format) (put_then a.0 b.0)) b.1 z.0 z.1
 
-pub put-header-spec : {M : Type 1} → statement M
-put-header-spec =
+pub put_header_spec : {M : Type 1} → statement M
+put_header_spec =
     tie.close
     (tie.spec
     (λ c κs. search rules)

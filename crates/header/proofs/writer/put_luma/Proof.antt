@@ -9,13 +9,13 @@ use Rattle.header.proofs.writer.put_luma.Tie as tie
 
 returns : tie.Need-returns
 returns c =
-    let A = c.before.before.before.before.before.before.before.before.before.before.args in
-    let field = c.before.before.before.before.before.before.put-field.ensures in
-    let points = c.before.before.put-points.ensures in
-    (rw (luma-bits (record_of A.f A.p.now) A.c) (put_then (rw c.before.before.before.before.before.before.before.wide.ensures at field.0) points.0), points.1, omega (arith, field.2, points.2))
+    let A = c.args in
+    let field = c.put_field-a.ensures in
+    let points = c.put_points.ensures in
+    (rw (luma-bits (record_of A.f A.p.now) A.c) (put_then (rw c.wide.ensures at field.0) points.0), points.1, omega (arith, field.2, points.2))
 
-pub put-luma-spec : {M : Type 1} → statement M
-put-luma-spec =
+pub put_luma_spec : {M : Type 1} → statement M
+put_luma_spec =
     tie.close
     (tie.spec
     (λ c κs. search rules)

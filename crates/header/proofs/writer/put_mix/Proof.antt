@@ -7,16 +7,16 @@ use Rattle.header.proofs.writer.put_mix.Tie as tie
 
 returns : tie.Need-returns
 returns c =
-    let a = c.before.before.before.before.before.before.before.before.before.before.before.put-field.ensures in
-    let b = c.before.before.before.before.before.before.put-field2.ensures in
-    let e = c.before.before.put-wide.ensures in (
-      put_then (rw c.before.before.before.before.before.before.before.before.before.before.before.before.wide.ensures at a.0) (put_then (rw c.before.before.before.before.before.before.before.wide2.ensures at b.0) e.0),
+    let a = c.put_field-a.ensures in
+    let b = c.put_field-b.ensures in
+    let e = c.put_wide.ensures in (
+      put_then (rw c.wide.ensures at a.0) (put_then (rw c.wide-2.ensures at b.0) e.0),
       e.1,
       omega (arith, a.2, b.2, e.2),
     )
 
-pub put-mix-spec : {M : Type 1} → statement M
-put-mix-spec =
+pub put_mix_spec : {M : Type 1} → statement M
+put_mix_spec =
     tie.close
     (tie.spec
     (λ c κs. search rules)

@@ -8,24 +8,24 @@ use Rattle.header.proofs.Parts.{opening-bits}
 use Rattle.header.proofs.writer.put_opening.Statement.{statement}
 use Rattle.header.proofs.writer.put_opening.Tie as tie
 
-put-field-requires-2 : tie.Need-put-field-requires-2
+put-field-requires-2 : tie.Need-put_field-requires
 put-field-requires-2 c κs =
-    (c.before.before.before.before.before.before.put-field.ensures.1, omega (arith, c.before.before.before.before.before.before.before.before.before.before.before.before.before.before.before.before.put.ensures.2, c.before.before.before.before.before.before.before.before.before.before.before.before.put-wide.ensures.2, c.before.before.before.before.before.before.put-field.ensures.2, c.before.before.before.before.before.before.before.before.before.before.before.before.before.before.before.before.before.before.before.before.requires.1), omega arith)
+    (c.put_field-c.ensures.1, omega (arith, c.put-a.ensures.2, c.put_wide-b.ensures.2, c.put_field-c.ensures.2, c.requires.1), omega arith)
 
-same_length : tie.Need-same-length
-same_length c = c.before.before.put-field2.auto.0 ∙ (c.before.before.before.before.before.before.before.before.before.put-field.auto.0 ∙ (c.before.before.before.before.before.before.before.before.before.before.before.before.before.before.before.put-wide.auto.0 ∙ c.before.before.before.before.before.before.before.before.before.before.before.before.before.before.before.before.before.before.before.put.auto.0))
+same_length : tie.Need-shape_of-dst
+same_length c = c.put_field.auto.dst ∙ (c.put_field-c.auto.dst ∙ (c.put_wide-b.auto.dst ∙ c.put-a.auto.dst))
 
 returns : tie.Need-returns
 returns c =
-    let A = c.before.before.before.before.before.before.before.before.before.before.before.before.before.before.before.before.before.before.before.before.before.before.before.args in
-    let a0 = c.before.before.before.before.before.before.before.before.before.before.before.before.before.before.before.before.before.before.before.put.ensures in
-    let wide = c.before.before.before.before.before.before.before.before.before.before.before.before.before.before.before.put-wide.ensures in
-    let field = c.before.before.before.before.before.before.before.before.before.put-field.ensures in
-    let field2 = c.before.before.put-field2.ensures in
-    (rw (opening-bits (scalars A.f) A.inter) (put_then (rw c.before.before.before.before.before.before.before.before.before.before.before.before.before.before.before.before.before.before.before.before.flag.ensures at a0.0) (put_then wide.0 (put_then (rw c.before.before.before.before.before.before.before.before.before.before.flag2.ensures at field.0) (rw c.before.before.before.wide.ensures at field2.0)))), field2.1, omega (arith, a0.2, wide.2, field.2, field2.2))
+    let A = c.args in
+    let a0 = c.put-a.ensures in
+    let wide = c.put_wide-b.ensures in
+    let field = c.put_field-c.ensures in
+    let field2 = c.put_field.ensures in
+    (rw (opening-bits (scalars A.f) A.inter) (put_then (rw c.flag.ensures at a0.0) (put_then wide.0 (put_then (rw c.flag-2.ensures at field.0) (rw c.wide.ensures at field2.0)))), field2.1, omega (arith, a0.2, wide.2, field.2, field2.2))
 
-pub put-opening-spec : {M : Type 1} → statement M
-put-opening-spec =
+pub put_opening_spec : {M : Type 1} → statement M
+put_opening_spec =
     tie.close
     (tie.spec
     (λ c κs. search rules)

@@ -14,63 +14,61 @@ use Rattle.header.proofs.Lists.{none-bits, point-bits, point-none, past_end}
 use Rattle.header.proofs.writer.put_points_of.Statement.{statement}
 use Rattle.header.proofs.writer.put_points_of.Tie as tie
 
-abbrev invariant-loop : tie.invariant-loop
+abbrev invariant-loop : tie.invariant-loop-i
 invariant-loop dst₀ n values scalings a₀ i₀ i-end dst a i = (i-end ≡ min n (length values)) × (i ≤ i-end) × (length dst ≡ length dst₀) × Ready a × (a.at ≤ a₀.at + 2 * i) × Put (bits_of (each i (point n values scalings))) a₀ dst₀ a dst
 
-abbrev decreases-loop : tie.decreases-loop
+abbrev decreases-loop : tie.decreases-loop-i
 decreases-loop dst₀ n values scalings a₀ i₀ i-end dst a i = i-end - i
 
-loop-holds : tie.Need-loop-init invariant-loop decreases-loop
+loop-holds : tie.Need-loop-i-init invariant-loop decreases-loop
 loop-holds c =
-    let S = c.before.before.before.before in
-    (c.smaller.ensures.0, omega arith, refl, S.requires.0, omega arith, put_as (sym (none-bits (point S.args.n S.args.values.now S.args.scalings.now))) put-none)
+    (c.smaller-i-end.ensures.0, omega arith, refl, c.requires.0, omega arith, put_as (sym (none-bits (point c.args.n c.args.values.now c.args.scalings.now))) put-none)
 
-shared-slice-read-put-byte : tie.Need-shared-slice-read-put-byte invariant-loop decreases-loop
-shared-slice-read-put-byte c = let L = c.before.before.before.loop in omega (arith, L.invariant.0)
+shared-slice-read-put-byte : tie.Need-bounds-values-i invariant-loop decreases-loop
+shared-slice-read-put-byte c = let L = c.loop-i in omega (arith, L.invariant.0)
 
-put-byte-requires : tie.Need-put-byte-requires invariant-loop decreases-loop
-put-byte-requires c κs = let S = c.before.before.before.before.before.before.before.before in let L = c.before.before.before.loop in (L.invariant.3, omega (arith, L.invariant.0, L.invariant.4, S.requires.2))
+put-byte-requires : tie.Need-put_byte-a-requires invariant-loop decreases-loop
+put-byte-requires c κs = let L = c.loop-i in (L.invariant.3, omega (arith, L.invariant.0, L.invariant.4, c.requires.2))
 
-shared-slice-read-put-byte-2 : tie.Need-shared-slice-read-put-byte-2 invariant-loop decreases-loop
-shared-slice-read-put-byte-2 c = let S = c.before.before.before.before.before.before.before.before.before.before.before.before.before in let L = c.before.before.before.before.before.before.before.before.loop in omega (arith, L.invariant.0, S.requires.1)
+shared-slice-read-put-byte-2 : tie.Need-bounds-scalings-i invariant-loop decreases-loop
+shared-slice-read-put-byte-2 c = let L = c.loop-i in omega (arith, L.invariant.0, c.requires.1)
 
-put-byte-requires-2 : tie.Need-put-byte-requires-2 invariant-loop decreases-loop
+put-byte-requires-2 : tie.Need-put_byte-a-requires-in-loop-i invariant-loop decreases-loop
 put-byte-requires-2 c κs =
-    let S = c.before.before.before.before.before.before.before.before.before.before.before.before.before in
-    let L = c.before.before.before.before.before.before.before.before.loop in
-    let p = c.before.before.before.before.put_byte.ensures in
-    (p.1, omega (arith, L.invariant.0, L.invariant.4, p.2, S.requires.2))
+    let L = c.loop-i in
+    let p = c.put_byte-a.ensures in
+    (p.1, omega (arith, L.invariant.0, L.invariant.4, p.2, c.requires.2))
 
-loop-again : tie.Need-loop-preserved invariant-loop decreases-loop
+loop-again : tie.Need-loop-i-preserved invariant-loop decreases-loop
 loop-again c =
-    let A = c.before.before.before.before.before.before.before.before.before.before.before.before.before.before.before.before.args in
-    let L = c.before.before.before.before.before.before.before.before.before.before.before.loop in
-    let p = c.before.before.before.before.before.before.before.put_byte.ensures in
-    let q = c.before.before.put-byte2.ensures in
+    let A = c.args in
+    let L = c.loop-i in
+    let p = c.put_byte-a.ensures in
+    let q = c.put_byte-a-in-loop-i.ensures in
     let e = bits_each L.i (point A.n A.values.now A.scalings.now) in
     let f = point-bits A.n A.values.now A.scalings.now L.i (omega (arith, L.invariant.0)) in (
       L.invariant.0,
       omega arith,
-      c.before.before.put-byte2.auto.0 ∙ (c.before.before.before.before.before.before.before.put_byte.auto.0 ∙ L.invariant.2),
+      c.put_byte-a-in-loop-i.auto.dst ∙ (c.put_byte-a.auto.dst ∙ L.invariant.2),
       q.1,
       omega (arith, L.invariant.4, p.2, q.2),
       rw (e, f) (put_then L.invariant.5 (put_then p.0 q.0)),
     )
 
-same_length : tie.Need-same-length invariant-loop decreases-loop
-same_length c = c.before.loop.invariant.2
+same_length : tie.Need-shape_of-dst invariant-loop decreases-loop
+same_length c = c.loop-i.invariant.2
 
 returns : tie.Need-returns invariant-loop decreases-loop
 unfolding points
 returns c =
-    let A = c.before.before.before.before.before.before.args in
-    let L = c.before.loop in
+    let A = c.args in
+    let L = c.loop-i in
     let i : L.i ≡ min A.n (length A.values.now) = omega (arith, L.invariant.0) in
     let past = bits-past L.i (length A.values.now) (point A.n A.values.now A.scalings.now) (omega arith) (λ k h l. point-none A.n A.values.now A.scalings.now k (past_end (length A.values.now) A.n k (rw i at h) l)) in
     (rw past L.invariant.5, L.invariant.3, omega (arith, L.invariant.4))
 
-pub put-points-of-spec : {M : Type 1} → statement M
-put-points-of-spec =
+pub put_points_of_spec : {M : Type 1} → statement M
+put_points_of_spec =
     tie.close
     (tie.spec
     invariant-loop

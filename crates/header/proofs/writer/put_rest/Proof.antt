@@ -10,24 +10,23 @@ use Rattle.header.proofs.Short.{uncoded-counts, rest-none}
 use Rattle.header.proofs.writer.put_rest.Statement.{statement}
 use Rattle.header.proofs.writer.put_rest.Tie as tie
 
-returns : tie.Need-returns
+returns : tie.Need-returns-then-not-c
 returns c =
-    let S = c.before.before.before in
-    let A = S.args in
-    (rw (uncoded-counts (scalars A.f) A.format A.c S.requires.1 c.if1.true) (put_as (sym (rest-none (record_of A.f A.p.now) A.format)) put-none), S.requires.0, omega arith)
+    let A = c.args in
+    (rw (uncoded-counts (scalars A.f) A.format A.c c.requires.1 c.if-not-c.true) (put_as (sym (rest-none (record_of A.f A.p.now) A.format)) put-none), c.requires.0, omega arith)
 
-returns-2 : tie.Need-returns-2
+returns-2 : tie.Need-returns
 unfolding luma_part chroma_part filter_part closing
 returns-2 c =
-    let A = c.before.before.before.before.before.before.before.before.before.before.before.before.before.before.before.before.before.before.before.args in
-    let a = c.before.before.before.before.before.before.before.before.before.before.before.before.before.before.put-luma.ensures in
-    let b = c.before.before.before.before.before.before.before.before.before.before.put-chroma.ensures in
-    let d = c.before.before.before.before.before.before.put-filter.ensures in
-    let e = c.before.before.put-closing.ensures in
+    let A = c.args in
+    let a = c.put_luma-a.ensures in
+    let b = c.put_chroma-b.ensures in
+    let d = c.put_filter-d.ensures in
+    let e = c.put_closing.ensures in
     (rw (rest-bits (record_of A.f A.p.now) A.c A.format) (put_then a.0 (put_then b.0 (put_then d.0 e.0))), e.1, omega (arith, a.2, b.2, d.2, e.2))
 
-pub put-rest-spec : {M : Type 1} → statement M
-put-rest-spec =
+pub put_rest_spec : {M : Type 1} → statement M
+put_rest_spec =
     tie.close
     (tie.spec
     returns

@@ -9,20 +9,19 @@ use Rattle.header.proofs.Holding.{put-none, put_then}
 use Rattle.header.proofs.writer.put_wide.Statement.{statement}
 use Rattle.header.proofs.writer.put_wide.Tie as tie
 
-returns : tie.Need-returns
+returns : tie.Need-returns-then-present
 returns c =
-    let S = c.before.before.before.before.before.before.before.before.before.before in
-    let a = c.before.before.before.before.before.before.put.ensures in
-    let b = c.before.before.put2.ensures in
-    let e : S.args.bits ≡ S.args.bits - 8 + 8 = omega arith in
-    rw (c.before.before.before.before.before.before.before.before.if1.true, e, digits-split (S.args.bits - 8) 8 S.args.value) (put_then a.0 b.0, b.1, omega (arith, a.2, b.2))
+    let a = c.put-a.ensures in
+    let b = c.put.ensures in
+    let e : c.args.bits ≡ c.args.bits - 8 + 8 = omega arith in
+    rw (c.if-present.true, e, digits-split (c.args.bits - 8) 8 c.args.value) (put_then a.0 b.0, b.1, omega (arith, a.2, b.2))
 
-returns-2 : tie.Need-returns-2
+returns-2 : tie.Need-returns
 unfolding digits
-returns-2 c = rw c.if1.false (put-none, c.before.before.requires.0, omega arith)
+returns-2 c = rw c.if-present.false (put-none, c.requires.0, omega arith)
 
-pub put-wide-spec : {M : Type 1} → statement M
-put-wide-spec =
+pub put_wide_spec : {M : Type 1} → statement M
+put_wide_spec =
     tie.close
     (tie.spec
     (λ c. search rules)

@@ -10,41 +10,38 @@ use borrow.Author.Rules.{rules}
 use Rattle.normal.proofs.blocks.add_row.Statement.{statement}
 use Rattle.normal.proofs.blocks.add_row.Tie as tie
 
-abbrev invariant-loop : tie.invariant-loop
+abbrev invariant-loop : tie.invariant-loop-z
 invariant-loop sums₀ tables starts rows r k z₀ z-end sums z = (z-end ≡ starts * starts) × (z ≤ starts * starts) × Reached (passing tables sums₀ starts rows r k) sums₀ sums (z * k)
 
-abbrev decreases-loop : tie.decreases-loop
+abbrev decreases-loop : tie.decreases-loop-z
 decreases-loop sums₀ tables starts rows r k z₀ z-end sums z = z-end - z
 
-div-apart : tie.Need-nonzero-div-apart invariant-loop decreases-loop
-div-apart c = positive c.before.before.args.starts c.before.loop.z c.loop-test.true
+div-apart : tie.Need-nonzero_div-apart invariant-loop decreases-loop
+div-apart c = positive c.args.starts c.loop-z.z c.loop-z-test.true
 
-in-sums : (c : tie.In-loop invariant-loop decreases-loop) → let A = c.before.before.args in c.before.loop.z * A.k + A.k ≤ length A.sums.now
-in-sums c = sums-end c.before.before.requires c.before.loop.z c.loop-test.true
+in-sums : (c : tie.In-loop-z invariant-loop decreases-loop) → let A = c.args in c.loop-z.z * A.k + A.k ≤ length A.sums.now
+in-sums c = sums-end c.requires c.loop-z.z c.loop-z-test.true
 
-in_tables : (c : tie.In-loop invariant-loop decreases-loop) → let A = c.before.before.args in c.before.loop.z / A.starts * A.k + A.k ≤ length A.tables.now
-in_tables c = tables_end c.before.before.requires c.before.loop.z c.loop-test.true
+in_tables : (c : tie.In-loop-z invariant-loop decreases-loop) → let A = c.args in c.loop-z.z / A.starts * A.k + A.k ≤ length A.tables.now
+in_tables c = tables_end c.requires c.loop-z.z c.loop-z-test.true
 
-add-add-passed : tie.Need-overflow-add-add-passed invariant-loop decreases-loop
-add-add-passed c = let T = c.before.before in omega (arith, digits_le T.before.before.args.starts T.before.loop.z T.loop-test.true, blocks-le T.before.before.requires)
+add-add-passed : tie.Need-overflow_add-apart invariant-loop decreases-loop
+add-add-passed c = omega (arith, digits_le c.args.starts c.loop-z.z c.loop-z-test.true, blocks-le c.requires)
 
-add-passed-requires : tie.Need-add-passed-requires invariant-loop decreases-loop
+add-passed-requires : tie.Need-add_passed-requires invariant-loop decreases-loop
 add-passed-requires c κs =
-    let T = c.before.before in
-    let S = T.before.before in
-    let H = T.before.loop in
-    (passing-same S.args.tables.now _ _ _ _ _ S.requires H.z H.invariant.2 T.loop-test.true, passing-addable S.args.tables.now _ _ _ _ _ S.requires H.z H.invariant.2 T.loop-test.true)
+    let H = c.loop-z in
+    (passing-same c.args.tables.now _ _ _ _ _ c.requires H.z H.invariant.2 c.loop-z-test.true, passing-addable c.args.tables.now _ _ _ _ _ c.requires H.z H.invariant.2 c.loop-z-test.true)
 
-loop-again : tie.Need-loop-preserved invariant-loop decreases-loop
+loop-again : tie.Need-loop-z-preserved invariant-loop decreases-loop
 loop-again c =
-    let T = c.before.before.before.before in
-    (refl, omega arith, passing-turn T.before.before.args.tables.now _ _ _ _ _ T.before.before.requires T.before.loop.z T.before.loop.invariant.2 T.loop-test.true c.before.add-passed.ensures)
+    (refl, omega arith, passing-turn c.args.tables.now _ _ _ _ _ c.requires c.loop-z.z c.loop-z.invariant.2 c.loop-z-test.true c.add_passed.ensures)
 
 returns : tie.Need-returns invariant-loop decreases-loop
-returns c = passing-ends c.before.before.args.tables.now _ _ _ _ _ c.before.before.requires c.before.loop.z c.before.loop.invariant.2 (search rules)
+returns c = passing-ends c.args.tables.now _ _ _ _ _ c.requires c.loop-z.z c.loop-z.invariant.2 (search rules)
 
-pub add-row-spec : {M : Type 1} → statement M
-add-row-spec =
+pub add_row_spec : {M : Type 1} → statement M
+add_row_spec =
     tie.close
     (tie.spec
     invariant-loop
@@ -59,7 +56,7 @@ add-row-spec =
     (λ c. omega (arith, in-sums c))
     (λ c. search rules)
     (λ c. search rules)
-    (λ c. omega (arith, in-sums c, c.before.loop.invariant.2.same))
+    (λ c. omega (arith, in-sums c, c.loop-z.invariant.2.same))
     (λ c. omega (arith, in_tables c.before))
     (λ c. search rules)
     (λ c. search rules)
@@ -67,7 +64,7 @@ add-row-spec =
     (λ c. div-apart c.before.before)
     add-add-passed
     add-passed-requires
-    (λ c. omega (arith, blocks-le c.before.before.before.before.before.before.requires))
+    (λ c. omega (arith, blocks-le c.requires))
     (λ c. search rules)
     loop-again
     (λ c. search rules)

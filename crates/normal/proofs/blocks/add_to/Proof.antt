@@ -13,26 +13,25 @@ use borrow.Author.Rules.{rules}
 use Rattle.normal.proofs.blocks.add_to.Statement.{statement}
 use Rattle.normal.proofs.blocks.add_to.Tie as tie
 
-abbrev invariant-loop : tie.invariant-loop
+abbrev invariant-loop : tie.invariant-loop-i
 invariant-loop sums₀ more i₀ i-end sums i = (i-end ≡ length sums₀) × Reached (plus sums₀ (at more)) sums₀ sums i
 
-abbrev decreases-loop : tie.decreases-loop
+abbrev decreases-loop : tie.decreases-loop-i
 decreases-loop sums₀ more i₀ i-end sums i = i-end - i
 
 -- a turn's sum
-added : (c : tie.After-y invariant-loop decreases-loop) → let A = c.before.before.before.before.args in
-    let H = c.before.before.before.loop in
+added : (c : tie.After-y-1 invariant-loop decreases-loop) → let A = c.args in
+    let H = c.loop-i in
     Is w64 (to_z w64 (of_z w64 (at H.sums H.i)) +ℤ to_z w64 (of_z w64 (at A.more.now H.i))) (plus A.sums.now (at A.more.now) H.i)
 added c =
-    let S = c.before.before.before.before in
-    let H = c.before.before.before.loop in
-    added_is S.args.sums.now (at S.args.more.now) H.i H.invariant.1 (record { sfits = c.before.x.given }) (kept (record { sfits = c.y.given }) refl) (S.requires.small H.i (search rules))
+    let H = c.loop-i in
+    added_is c.args.sums.now (at c.args.more.now) H.i H.invariant.1 (record { sfits = c.x-1.given }) (kept {w = w64} (record { sfits = c.y-1.given }) refl) (c.requires.small H.i (search rules))
 
-loop-again : tie.Need-loop-preserved invariant-loop decreases-loop
-loop-again c = (refl, reached-turn _ _ c.before.before.before.loop.i c.before.before.before.loop.invariant.1 _ (search rules) (again (added c)).eq)
+loop-again : tie.Need-loop-i-preserved invariant-loop decreases-loop
+loop-again c = (refl, reached-turn _ _ c.loop-i.i c.loop-i.invariant.1 _ (search rules) (again (added c)).eq)
 
 returns : tie.Need-returns invariant-loop decreases-loop
-returns c = reached-ends _ _ c.before.loop.i c.before.loop.invariant.1 (search rules)
+returns c = reached-ends _ _ c.loop-i.i c.loop-i.invariant.1 (search rules)
 
 pub add_to_spec : {M : Type 1} → statement M
 add_to_spec =

@@ -9,17 +9,17 @@ use borrow.Author.Rules.{rules}
 use Rattle.normal.proofs.blocks.clear.Statement.{statement}
 use Rattle.normal.proofs.blocks.clear.Tie as tie
 
-abbrev invariant-loop : tie.invariant-loop
+abbrev invariant-loop : tie.invariant-loop-i
 invariant-loop sums₀ i₀ i-end sums i = (i-end ≡ length sums₀) × Filled (λ k. pos 0) sums₀ sums i
 
-abbrev decreases-loop : tie.decreases-loop
+abbrev decreases-loop : tie.decreases-loop-i
 decreases-loop sums₀ i₀ i-end sums i = i-end - i
 
-loop-again : tie.Need-loop-preserved invariant-loop decreases-loop
-loop-again c = (refl, fill-turn _ _ _ c.before.loop.invariant.1 (search rules) refl)
+loop-again : tie.Need-loop-i-preserved invariant-loop decreases-loop
+loop-again c = (refl, fill-turn _ _ _ c.loop-i.invariant.1 (search rules) refl)
 
 returns : tie.Need-returns invariant-loop decreases-loop
-returns c = zeros-table _ (fill-ends _ _ c.before.loop.invariant.1 (search rules))
+returns c = zeros-table _ (fill-ends _ _ c.loop-i.invariant.1 (search rules))
 
 pub clear_spec : {M : Type 1} → statement M
 clear_spec =

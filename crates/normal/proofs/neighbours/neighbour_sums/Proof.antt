@@ -9,38 +9,35 @@ use borrow.Author.Rules.{rules}
 use Rattle.normal.proofs.neighbours.neighbour_sums.Statement.{statement}
 use Rattle.normal.proofs.neighbours.neighbour_sums.Tie as tie
 
-slice-aggregate-pass-rows : tie.Need-slice-aggregate-pass-rows
-slice-aggregate-pass-rows c = let T = c.before.before.before.before.before.before.before in sym (length-take-le T.before.before.before.args.view.width T.blank-line.result (search rules))
+slice-aggregate-pass-rows : tie.Need-slice_bounds-pass_rows-end
+slice-aggregate-pass-rows c = sym (length-take-le c.args.view.width c.blank_line-up.result (search rules))
 
-slice-aggregate-pass-rows-2 : tie.Need-slice-aggregate-pass-rows-2
-slice-aggregate-pass-rows-2 c = let T = c.before.before.before.before.before.before.before in sym (length-take-le T.before.before.before.before.args.view.width T.blank-line2.result (search rules))
+slice-aggregate-pass-rows-2 : tie.Need-slice_bounds-pass_rows-end-2
+slice-aggregate-pass-rows-2 c = sym (length-take-le c.args.view.width c.blank_line-lo.result (search rules))
 
-array-borrow-prefix-tables : tie.Need-array-borrow-prefix-tables
-array-borrow-prefix-tables c = le_trans (tables-few c.before.before.before.before.before.before.before.before.before.before.before.requires.window.few) (search rules)
+array-borrow-prefix-tables : tie.Need-slice_bounds-tables-end
+array-borrow-prefix-tables c = le_trans (tables-few c.requires.window.few) (search rules)
 
-slice-aggregate-pass-rows-3 : tie.Need-slice-aggregate-pass-rows-3
-slice-aggregate-pass-rows-3 c = sym (length-take-le _ c.before.before.before.before.before.before.before.blank-tables.result (array-borrow-prefix-tables c.before))
+slice-aggregate-pass-rows-3 : tie.Need-slice_bounds-pass_rows-end-3
+slice-aggregate-pass-rows-3 c = sym (length-take-le _ c.blank_tables-tables.result (array-borrow-prefix-tables c.before))
 
-pass-rows-requires : tie.Need-pass-rows-requires
+pass-rows-requires : tie.Need-pass_rows-requires
 pass-rows-requires c κs =
-    let S = c.before.before.before.before.before.before.before.before.before.before.before.before.before in
     record {
-      plot = window-plot _ _ _ S.requires.window S.requires.seen;
-      count = omega (arith, S.requires.window.rows);
+      plot = window-plot _ _ _ c.requires.window c.requires.seen;
+      count = omega (arith, c.requires.window.rows);
       up-length = sym (slice-aggregate-pass-rows c.before.before.before);
       lo-length = sym (slice-aggregate-pass-rows-2 c.before.before);
       tables-length = sym (slice-aggregate-pass-rows-3 c.before);
-      nothing = rw S.requires.sized at c.before.before.before.before.before.before.clear.ensures;
+      nothing = rw c.requires.sized at c.clear.ensures;
     }
 
 returns : tie.Need-returns
 returns c =
-    let T = c.before.before.before.before in
-    let S = T.before.before.before.before.before.before.before.before.before.before.before.before.before.before in
-    sums-seen _ _ _ S.requires.window T.pass-rows.ensures
+    sums-seen _ _ _ c.requires.window c.pass_rows.ensures
 
-pub neighbour-sums-spec : {M : Type 1} → statement M
-neighbour-sums-spec =
+pub neighbour_sums_spec : {M : Type 1} → statement M
+neighbour_sums_spec =
     tie.close
     (tie.spec
     (λ c κs. search rules)

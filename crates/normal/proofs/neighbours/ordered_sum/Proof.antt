@@ -12,8 +12,8 @@ use Rattle.normal.proofs.neighbours.ordered_sum.Tie as tie
 facts : (c : tie.Start) → PairIn (c.args.lag + 1) (side c.args.lag) c.args.i c.args.j
 facts c = pair-in (c.args.lag + 1) (side c.args.lag) c.args.i c.args.j c.requires.0 (lt_of_lt_of_le c.requires.1 (factors-le c.args.lag))
 
-pub ordered-sum-spec : {M : Type 1} → statement M
-ordered-sum-spec =
+pub ordered_sum_spec : {M : Type 1} → statement M
+ordered_sum_spec =
     tie.close
     (tie.spec
     (λ c. search rules)

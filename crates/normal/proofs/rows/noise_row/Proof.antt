@@ -4,12 +4,12 @@ use borrow.Author.Rules.{rules}
 use Rattle.normal.proofs.rows.noise_row.Statement.{statement}
 use Rattle.normal.proofs.rows.noise_row.Tie as tie
 
-noise-line-requires : tie.Need-noise-line-requires
-noise-line-requires c κs = looser c.before.before.before.before.before.requires
+noise-line-requires : tie.Need-noise_line-requires
+noise-line-requires c κs = looser c.requires
 
 returns : tie.Need-returns
 returns c = search rules
 
-pub noise-row-spec : {M : Type 1} → statement M
-noise-row-spec =
+pub noise_row_spec : {M : Type 1} → statement M
+noise_row_spec =
     tie.close (tie.spec (λ c. search rules) (λ c. search rules) noise-line-requires (λ c. search rules) returns)

@@ -8,22 +8,22 @@ use borrow.Author.Rules.{rules}
 use Rattle.normal.proofs.starts.product_at.Statement.{statement}
 use Rattle.normal.proofs.starts.product_at.Tie as tie
 
-cast-x : tie.Need-overflow-cast-x
-cast-x c = let A = c.before.args in fits (wide64 (at A.up.now A.a) (record { sfits = c.x.given }))
+cast-x : tie.Need-overflow_cast-x
+cast-x c = let A = c.args in fits (wide64 (at A.up.now A.a) (record { sfits = c.x-1.given }))
 
-cast-y : tie.Need-overflow-cast-y
-cast-y c = let A = c.before.before.args in fits (wide64 (at A.lo.now A.b) (record { sfits = c.y.given }))
+cast-y : tie.Need-overflow_cast-y
+cast-y c = let A = c.args in fits (wide64 (at A.lo.now A.b) (record { sfits = c.y-1.given }))
 
-multiplied : (c : tie.After-y) → let A = c.before.before.args in Is w64 (wide (at A.up.now A.a) *ℤ wide (at A.lo.now A.b)) (at A.up.now A.a *ℤ at A.lo.now A.b)
+multiplied : (c : tie.After-y-1) → let A = c.args in Is w64 (wide (at A.up.now A.a) *ℤ wide (at A.lo.now A.b)) (at A.up.now A.a *ℤ at A.lo.now A.b)
 multiplied c =
-    let A = c.before.before.args in
-    product64 (at A.up.now A.a) (at A.lo.now A.b) (record { sfits = c.before.x.given }) (record { sfits = c.y.given })
+    let A = c.args in
+    product64 (at A.up.now A.a) (at A.lo.now A.b) (record { sfits = c.x-1.given }) (record { sfits = c.y-1.given })
 
 returns : tie.Need-returns
 returns c = (again (multiplied c)).eq
 
-pub product-at-spec : {M : Type 1} → statement M
-product-at-spec =
+pub product_at_spec : {M : Type 1} → statement M
+product_at_spec =
     tie.close
     (tie.spec
     (λ c. search rules)

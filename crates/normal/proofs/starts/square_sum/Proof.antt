@@ -1,4 +1,5 @@
 -- `normal::starts::square_sum` meets its contract: it is the dot product of a part and itself. Assumes nothing.
+use mir.Syntax.{w64}
 use mathlib.Core.Path.{◌∙◌}
 use lib.Dec.{lit<}
 use Rattle.normal.proofs.Overlaps.{kept, overlap-lines, overlap-sum}
@@ -6,13 +7,13 @@ use borrow.Author.Rules.{rules}
 use Rattle.normal.proofs.starts.square_sum.Statement.{statement}
 use Rattle.normal.proofs.starts.square_sum.Tie as tie
 
-dot-wide-requires : tie.Need-dot-wide-requires
-dot-wide-requires c κs = overlap-lines c.before.requires 8 (lit< tt)
+dot-wide-requires : tie.Need-dot_wide-requires
+dot-wide-requires c κs = overlap-lines c.requires 8 (lit< tt)
 
 returns : tie.Need-returns
-returns c = kept (record { sfits = c.dot-wide.type-inv }) (c.dot-wide.ensures ∙ overlap-sum c.before.before.requires)
+returns c = kept {w = w64} (record { sfits = c.dot_wide.type_inv }) (c.dot_wide.ensures ∙ overlap-sum c.requires)
 
-pub square-sum-spec : {M : Type 1} → statement M
-square-sum-spec =
+pub square_sum_spec : {M : Type 1} → statement M
+square_sum_spec =
     tie.close
     (tie.spec (λ c. search rules) (λ c. search rules) (λ c. search rules) (λ c. search rules) (λ c. search rules) dot-wide-requires returns)

@@ -1,4 +1,5 @@
 -- `normal::starts::start_sum` meets its contract: it is the dot product of two parts. Assumes nothing.
+use mir.Syntax.{w64}
 use mathlib.Core.Path.{◌∙◌}
 use lib.Dec.{lit<}
 use Rattle.normal.proofs.Overlaps.{kept, overlap-lines, overlap-sum}
@@ -7,10 +8,10 @@ use Rattle.normal.proofs.starts.start_sum.Statement.{statement}
 use Rattle.normal.proofs.starts.start_sum.Tie as tie
 
 returns : tie.Need-returns
-returns c = kept (record { sfits = c.dot.type-inv }) (c.dot.ensures ∙ overlap-sum c.before.before.before.requires)
+returns c = kept {w = w64} (record { sfits = c.dot.type_inv }) (c.dot.ensures ∙ overlap-sum c.requires)
 
-pub start-sum-spec : {M : Type 1} → statement M
-start-sum-spec =
+pub start_sum_spec : {M : Type 1} → statement M
+start_sum_spec =
     tie.close
     (tie.spec
     (λ c. search rules)
@@ -23,5 +24,5 @@ start-sum-spec =
     (λ c. search rules)
     (λ c. search rules)
     (λ c. search rules)
-    (λ c κs. overlap-lines c.before.before.requires 32 (lit< tt))
+    (λ c κs. overlap-lines c.requires 32 (lit< tt))
     returns)

@@ -4,12 +4,12 @@ use borrow.Author.Rules.{rules}
 use Rattle.normal.proofs.tap.add_taps.Statement.{statement}
 use Rattle.normal.proofs.tap.add_taps.Tie as tie
 
-add-to-requires : tie.Need-add-to-requires
-add-to-requires c κs = let T = c.before.before.before.before in taps-addable T.before.before.before.before.before.requires T.tap-row.ensures
+add-to-requires : tie.Need-add_to-requires
+add-to-requires c κs = taps-addable c.requires c.tap_row.ensures
 
 returns : tie.Need-returns
-returns c = let T = c.before.before.before.before.before.before in taps-added T.before.before.before.before.before.requires T.tap-row.ensures c.before.add-to.ensures
+returns c = taps-added c.requires c.tap_row.ensures c.add_to.ensures
 
-pub add-taps-spec : {M : Type 1} → statement M
-add-taps-spec =
+pub add_taps_spec : {M : Type 1} → statement M
+add_taps_spec =
     tie.close (tie.spec (λ c κs. search rules) add-to-requires (λ c. search rules) (λ c. search rules) (λ c. search rules) returns)

@@ -20,12 +20,12 @@ use Rattle.normal.proofs.TapSums.{held_none, average-room, squares-turn, compone
 use Rattle.normal.proofs.tap.tap_rows.Statement.{statement}
 use Rattle.normal.proofs.tap.tap_rows.Tie as tie
 
-abbrev invariant-loop : tie.invariant-loop
+abbrev invariant-loop : tie.invariant-loop-r
 invariant-loop y y-den cb cb-den cr cr-den geometry lag sums₀ averages₀ line₀ row₀ cb-taps₀ cr-taps₀ chroma n rows squares₀ r₀ sums averages line row cb-taps cr-taps squares r =
     (length sums ≡ geometry.luma.width) × (length averages ≡ geometry.chroma.width) × (length line ≡ geometry.chroma.width) × (length row ≡ factors lag) × (r ≤ rows)
     × TapsHeld geometry y y-den cb cb-den cr cr-den lag r (to_z w64 squares) cb-taps cr-taps
 
-abbrev decreases-loop : tie.decreases-loop
+abbrev decreases-loop : tie.decreases-loop-r
 decreases-loop y y-den cb cb-den cr cr-den geometry lag sums₀ averages₀ line₀ row₀ cb-taps₀ cr-taps₀ chroma n rows squares₀ r₀ sums averages line row cb-taps cr-taps squares r = rows - r
 
 double : {lag : ℕ} → lag ≤ 3 → Fits w64 (2 * lag)
@@ -37,114 +37,75 @@ in_rows r lag h l k = record { fits = omega arith }
 one_more : (r lag h : ℕ) → r < h - lag → h ≤ side_limit → Fits w64 (r + 1)
 one_more r lag h l k = record { fits = omega arith }
 
--- ---- what is known at entry, before the loop and in a turn
-abbrev entry : tie.After-chroma invariant-loop decreases-loop → tie.Start invariant-loop decreases-loop
-entry c = c.before.before.before.before.before.before.before
+loop-holds : tie.Need-loop-r-init invariant-loop decreases-loop
+loop-holds c = let P = c.requires in (P.sums-length, P.averages-length, P.line-length, P.row-length, zero-le, held_none P)
 
-abbrev start : tie.In-loop invariant-loop decreases-loop → tie.Start invariant-loop decreases-loop
-start T = entry T.before.before.before.before
-
-loop-holds : tie.Need-loop-init invariant-loop decreases-loop
-loop-holds c = let P = (entry c.before.before).pre in (P.sums-length, P.averages-length, P.line-length, P.row-length, zero-le, held_none P)
-
-average-squares-requires : tie.Need-average-squares-requires invariant-loop decreases-loop
+average-squares-requires : tie.Need-average_squares-part-requires invariant-loop decreases-loop
 average-squares-requires c κs =
-    let T = c.before.before in
-    average-room (start T).requires T.before.loop.r T.loop-test.true T.before.loop.invariant.0 T.before.loop.invariant.1
+    average-room c.requires c.loop-r.r c.loop-r-test.true c.loop-r.invariant.0 c.loop-r.invariant.1
 
--- ---- the averages of row r + lag, and the squares with theirs
-abbrev averaged-in : tie.After-average-squares invariant-loop decreases-loop → tie.In-loop invariant-loop decreases-loop
-averaged-in c = c.before.before.before
-
-squared : (c : tie.After-average-squares invariant-loop decreases-loop) → let A = (start (averaged-in c)).args in
-    Is w64 (to_z w64 (averaged-in c).before.loop.squares +ℤ to_z w64 (of_z w64 c.average-squares.result))
-    (squares_after (quarters (luma_seen A.geometry A.y.now A.yden.now)) A.geometry.chroma.width A.lag ((averaged-in c).before.loop.r + 1))
+squared : (c : tie.After-average_squares-part invariant-loop decreases-loop) → let A = c.args in
+    Is w64 (to_z w64 c.loop-r.squares-bits +ℤ to_z w64 (of_z w64 c.average_squares-part.result))
+    (squares_after (quarters (luma_seen A.geometry A.y.now A.yden.now)) A.geometry.chroma.width A.lag (c.loop-r.r + 1))
 squared c =
-    let T = averaged-in c in
-    squares-turn (start T).pre T.before.loop.r T.loop-test.taken c.average-squares.result T.before.loop.inv.5.squares-are c.average-squares.ensures.squares-are
+    squares-turn c.requires c.loop-r.r c.loop-r-test.true c.average_squares-part.result c.loop-r.invariant.5.squares-are c.average_squares-part.ensures.squares-are
 
--- ---- both components
-abbrev blue-after : tie.After-add-taps-arg4 invariant-loop decreases-loop → tie.After-average-squares invariant-loop decreases-loop
-blue-after c = c.before.before.before.before.before.before
-
-add-taps-requires : tie.Need-add-taps-requires invariant-loop decreases-loop
+add-taps-requires : tie.Need-add_taps-requires invariant-loop decreases-loop
 add-taps-requires c κs =
-    let Q = blue-after c in
-    let T = averaged-in Q in
-    let H = T.before.loop in
-    component-add (start T).pre H.r T.loop-test.taken (start T).pre.frame.cb H.inv.5.cb-are Q.average-squares.ensures.averages-are H.inv.2 H.inv.3
+    let H = c.loop-r in
+    component-add c.requires H.r c.loop-r-test.true c.requires.frame.cb H.invariant.5.cb-are c.average_squares-part.ensures.averages-are H.invariant.2 H.invariant.3
 
-abbrev red-after : tie.After-add-taps-arg8 invariant-loop decreases-loop → tie.After-add-taps invariant-loop decreases-loop
-red-after c = c.before.before.before.before.before.before.before
-
-add-taps-requires-2 : tie.Need-add-taps-requires-2 invariant-loop decreases-loop
+add-taps-requires-2 : tie.Need-add_taps-requires-in-loop-r invariant-loop decreases-loop
 add-taps-requires-2 c κs =
-    let B = red-after c in
-    let Q = blue-after B.before in
-    let T = averaged-in Q in
-    let H = T.before.loop in
-    let K = B.add-taps.kept.1.1.1.1.1.1 in
-    component-add (start T).pre H.r T.loop-test.taken (start T).pre.frame.cr H.inv.5.cr-are Q.average-squares.ensures.averages-are (K.0 ∙ H.inv.2) (K.1.0 ∙ H.inv.3)
+    let H = c.loop-r in
+    component-add c.requires H.r c.loop-r-test.true c.requires.frame.cr H.invariant.5.cr-are c.average_squares-part.ensures.averages-are (c.add_taps.auto.line ∙ H.invariant.2) (c.add_taps.auto.row ∙ H.invariant.3)
 
--- ---- the turn's end
-abbrev turn : tie.After-crtaps invariant-loop decreases-loop → tie.In-loop invariant-loop decreases-loop
-turn c = averaged-in (blue-after (red-after c.before.before.before.before).before)
-
-loop-again : tie.Need-loop-preserved invariant-loop decreases-loop
+loop-again : tie.Need-loop-r-preserved invariant-loop decreases-loop
 loop-again c =
-    let R = c.before.before.before in
-    let B = red-after R.before in
-    let Q = blue-after B.before in
-    let T = averaged-in Q in
-    let A = (start T).args in
-    let H = T.before.loop in
+    let A = c.args in
+    let H = c.loop-r in
     let q = quarters (luma_seen A.geometry A.y.now A.yden.now) in
     let v = A.geometry.chroma in
-    let wide = (start T).pre.window.columns in
-    let K = Q.average-squares.kept.1.1.1.1.1.1 in
-    let L = B.add-taps.kept.1.1.1.1.1.1 in
-    let M = R.add-taps2.auto.1.1.1.1.1.1 in (
-      K.0 ∙ H.inv.0,
-      K.1.0 ∙ H.inv.1,
-      M.0 ∙ L.0 ∙ H.inv.2,
-      M.1.0 ∙ L.1.0 ∙ H.inv.3,
-      add-one-le T.loop-test.taken,
+    let wide = c.requires.window.columns in
+    let L = c.add_taps.auto in
+    let M = c.add_taps-in-loop-r.auto in (
+      c.average_squares-part.auto.sums ∙ H.invariant.0,
+      c.average_squares-part.auto.averages ∙ H.invariant.1,
+      M.line ∙ L.line ∙ H.invariant.2,
+      M.row ∙ L.row ∙ H.invariant.3,
+      add-one-le c.loop-r-test.true,
       record {
-        squares-are = (again (squared Q)).eq;
-        cb-are = taps-more (noise_at A.cb.now A.cbden.now v) q v.width A.lag H.r wide Q.average-squares.ensures.averages-are H.inv.5.cb-are B.add-taps.ensures;
-        cr-are = taps-more (noise_at A.cr.now A.crden.now v) q v.width A.lag H.r wide Q.average-squares.ensures.averages-are H.inv.5.cr-are R.add-taps2.ensures;
+        squares-are = (again (squared c.before.before.before.before.before.before.before.before.before.before.before.before.before.before.before.before)).eq;
+        cb-are = taps-more (noise_at A.cb.now A.cbden.now v) q v.width A.lag H.r wide c.average_squares-part.ensures.averages-are H.invariant.5.cb-are c.add_taps.ensures;
+        cr-are = taps-more (noise_at A.cr.now A.crden.now v) q v.width A.lag H.r wide c.average_squares-part.ensures.averages-are H.invariant.5.cr-are c.add_taps-in-loop-r.ensures;
       },
     )
 
--- ---- after the loop
-abbrev entered : tie.After-loop invariant-loop decreases-loop → tie.Start invariant-loop decreases-loop
-entered c = entry c.before.before.before.before
-
 returns : tie.Need-returns invariant-loop decreases-loop
-returns c = rw (le_antisymm c.before.loop.invariant.4 c.loop-test.false) at c.before.loop.invariant.5
+returns c = rw (le_antisymm c.loop-r.invariant.4 c.loop-r-test.false) at c.loop-r.invariant.5
 
-pub tap-rows-spec : {M : Type 1} → statement M
-tap-rows-spec =
+pub tap_rows_spec : {M : Type 1} → statement M
+tap_rows_spec =
     tie.close
     (tie.spec
     invariant-loop
     decreases-loop
-    (λ c. double (entry c).requires.window.few)
-    (λ c. (entry c.before).pre.window.columns)
-    (λ c. (entry c.before.before).pre.window.rows)
+    (λ c. double c.requires.window.few)
+    (λ c. c.requires.window.columns)
+    (λ c. c.requires.window.rows)
     loop-holds
-    (λ c. in_rows _ _ _ c.loop-test.true (start c).requires.frame.cb.low)
+    (λ c. in_rows _ _ _ c.loop-r-test.true c.requires.frame.cb.low)
     average-squares-requires
     (λ c. fits (squared c.before.before))
     add-taps-requires
     add-taps-requires-2
-    (λ c. one_more _ _ _ (turn c).loop-test.true (start (turn c)).pre.frame.cb.low)
-    (λ c. falls _ _ (turn c).loop-test.true)
+    (λ c. one_more _ _ _ c.loop-r-test.true c.requires.frame.cb.low)
+    (λ c. falls _ _ c.loop-r-test.true)
     loop-again
-    (λ c. c.before.loop.invariant.0 ∙ sym (entered c).requires.sums-length)
-    (λ c. c.before.loop.invariant.1 ∙ sym (entered c).requires.averages-length)
-    (λ c. c.before.loop.invariant.2 ∙ sym (entered c).requires.line-length)
-    (λ c. c.before.loop.invariant.3 ∙ sym (entered c).requires.row-length)
-    (λ c. size _ _ c.before.loop.invariant.5.cb-are ∙ sym (entered c).requires.cb-nothing.size)
-    (λ c. size _ _ c.before.loop.invariant.5.cr-are ∙ sym (entered c).requires.cr-nothing.size)
+    (λ c. c.loop-r.invariant.0 ∙ sym c.requires.sums-length)
+    (λ c. c.loop-r.invariant.1 ∙ sym c.requires.averages-length)
+    (λ c. c.loop-r.invariant.2 ∙ sym c.requires.line-length)
+    (λ c. c.loop-r.invariant.3 ∙ sym c.requires.row-length)
+    (λ c. size _ _ c.loop-r.invariant.5.cb-are ∙ sym c.requires.cb-nothing.size)
+    (λ c. size _ _ c.loop-r.invariant.5.cr-are ∙ sym c.requires.cr-nothing.size)
     returns)

@@ -6,34 +6,32 @@ use Rattle.profile.proofs.Kept.{kept-line-small, kept-squares, nothing, everythi
 use Rattle.profile.proofs.bins.bin_of.Statement.{statement}
 use Rattle.profile.proofs.bins.bin_of.Tie as tie
 
-returns : tie.Need-returns
-returns c = let S = c.before.before.before in nothing S.args.line.now S.requires.1 (inl c.if1.true)
+returns : tie.Need-returns-then-j-range
+returns c = nothing c.args.line.now c.requires.1 (inl c.if-j-range.true)
 
-returns-2 : tie.Need-returns-2
-returns-2 c = let S = c.before.before.before.before.before in nothing S.args.line.now S.requires.1 (inr c.if2.true)
+returns-2 : tie.Need-returns-then-range-j
+returns-2 c = nothing c.args.line.now c.requires.1 (inr c.if-range-j.true)
 
-returns-3 : tie.Need-returns-3
+returns-3 : tie.Need-returns-then-range
 returns-3 c =
-    let S = c.before.before.before.before.before.before.before.before in
-    let E = everything S.args.line.now S.requires.1 c.before.before.before.before.before.if1.false c.before.before.before.if2.false c.before.if3.true S.requires.0.same in
-    (E.0, c.line-squares.ensures ∙ E.1)
+    let E = everything c.args.line.now c.requires.1 c.if-j-range.false c.if-range-j.false c.if-range.true c.requires.0.same in
+    (E.0, c.line_squares-squares.ensures ∙ E.1)
 
-line-squares-requires-2 : tie.Need-line-squares-requires-2
-line-squares-requires-2 c κs = let S = c.before.before.before.before.before.before.before.before.before.before.before in kept-line-small S.args.j S.requires.0 _ S.requires.2 c.before.before.keep-bin.ensures.1
+line-squares-requires-2 : tie.Need-line_squares-squares-requires-2
+line-squares-requires-2 c κs = kept-line-small c.args.j c.requires.0 _ c.requires.2 c.keep_bin-count.ensures.1
 
-returns-4 : tie.Need-returns-4
+returns-4 : tie.Need-returns
 returns-4 c =
-    let S = c.before.before.before.before.before.before.before.before.before.before.before.before in
-    let E = c.before.before.before.keep-bin.ensures in
-    (E.0, c.line-squares2.ensures ∙ kept-squares S.args.j S.requires.0 _ S.requires.2 E.1)
+    let E = c.keep_bin-count.ensures in
+    (E.0, c.line_squares-squares-2.ensures ∙ kept-squares c.args.j c.requires.0 _ c.requires.2 E.1)
 
-pub bin-of-spec : {M : Type 1} → statement M
-bin-of-spec =
+pub bin_of_spec : {M : Type 1} → statement M
+bin_of_spec =
     tie.close
     (tie.spec
     returns
     returns-2
-    (λ c κs. c.before.before.before.before.before.before.before.requires.0.shifted-line)
+    (λ c κs. c.requires.0.shifted-line)
     returns-3
     (λ c. search rules)
     (λ c. search rules)

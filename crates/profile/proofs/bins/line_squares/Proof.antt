@@ -16,15 +16,15 @@ use Rattle.profile.proofs.bins.line_squares.Tie as tie
 dot-requires : tie.Need-dot-requires
 dot-requires c κs = square-lines c.requires
 
-dotted : (c : tie.After-dot) → let line = c.before.args.line.now in
+dotted : (c : tie.After-dot) → let line = c.args.line.now in
     to_z w64 (of_z w64 c.dot.result) ≡ pos (sum_n (λ i. square_of (at line i)) (length line))
-dotted c = (again (self (record { sfits = c.dot.type-inv }))).eq ∙ c.dot.ensures ∙ dot-squares c.before.args.line.now
+dotted c = (again {w = w64} (self (record { sfits = c.dot.type_inv }))).eq ∙ c.dot.ensures ∙ dot-squares c.args.line.now
 
-cast-result : tie.Need-overflow-cast-result
-cast-result c = rw (dotted c) (tt, record { fits = omega (arith, squares-le c.before.requires) })
+cast-result : tie.Need-overflow_cast-result
+cast-result c = rw (dotted c) (tt, record { fits = omega (arith, squares-le c.requires) })
 
 returns : tie.Need-returns
 returns c = ap nat_abs (dotted c)
 
-pub line-squares-spec : {M : Type 1} → statement M
-line-squares-spec = tie.close (tie.spec dot-requires cast-result returns)
+pub line_squares_spec : {M : Type 1} → statement M
+line_squares_spec = tie.close (tie.spec dot-requires cast-result returns)

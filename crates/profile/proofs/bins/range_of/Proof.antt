@@ -6,20 +6,20 @@ use Rattle.profile.proofs.Kept.{BetweenTo, between-starts, between-turn, between
 use Rattle.profile.proofs.bins.range_of.Statement.{statement}
 use Rattle.profile.proofs.bins.range_of.Tie as tie
 
-abbrev invariant-loop : tie.invariant-loop
+abbrev invariant-loop : tie.invariant-loop-i
 invariant-loop bins least₀ greatest₀ i₀ i-end least greatest i = BetweenTo bins least greatest i
 
-abbrev decreases-loop : tie.decreases-loop
+abbrev decreases-loop : tie.decreases-loop-i
 decreases-loop bins least₀ greatest₀ i₀ i-end least greatest i = length bins - i
 
-loop-again : tie.Need-loop-preserved invariant-loop decreases-loop
-loop-again c = rw (c.before.lesser.ensures, c.greater.ensures) (between-turn c.before.before.before.before.loop.invariant (search rules))
+loop-again : tie.Need-loop-i-preserved invariant-loop decreases-loop
+loop-again c = rw (c.lesser-least.ensures, c.greater-greatest.ensures) (between-turn c.loop-i.invariant (search rules))
 
 returns : tie.Need-returns invariant-loop decreases-loop
-returns c = between_ends c.before.loop.invariant (search rules)
+returns c = between_ends c.loop-i.invariant (search rules)
 
-pub range-of-spec : {M : Type 1} → statement M
-range-of-spec =
+pub range_of_spec : {M : Type 1} → statement M
+range_of_spec =
     tie.close
     (tie.spec
     invariant-loop

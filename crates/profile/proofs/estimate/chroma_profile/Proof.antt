@@ -6,10 +6,10 @@ use Rattle.profile.proofs.estimate.chroma_profile.Statement.{statement}
 use Rattle.profile.proofs.estimate.chroma_profile.Tie as tie
 
 returns : tie.Need-returns
-returns c = λ i. chroma_of (profile-is c.before.before.before.plane-profile.ensures i)
+returns c = λ i. chroma_of (profile-is c.plane_profile-sigma16.ensures i)
 
-pub chroma-profile-spec : {M : Type 1} → statement M
-chroma-profile-spec =
+pub chroma_profile_spec : {M : Type 1} → statement M
+chroma_profile_spec =
     tie.close
     (tie.spec
     (λ c. search rules)

@@ -6,10 +6,10 @@ use Rattle.profile.proofs.estimate.luma_profile.Statement.{statement}
 use Rattle.profile.proofs.estimate.luma_profile.Tie as tie
 
 returns : tie.Need-returns
-returns c = λ i. luma_of (profile-is c.before.before.before.plane-profile.ensures i)
+returns c = λ i. luma_of (profile-is c.plane_profile-sigma16.ensures i)
 
-pub luma-profile-spec : {M : Type 1} → statement M
-luma-profile-spec =
+pub luma_profile_spec : {M : Type 1} → statement M
+luma_profile_spec =
     tie.close
     (tie.spec
     (λ c. search rules)

@@ -7,38 +7,38 @@ use Rattle.profile.proofs.Answered.{estimate-refused, estimate-accepted, estimat
 use Rattle.profile.proofs.estimate.noise_estimate.Statement.{statement}
 use Rattle.profile.proofs.estimate.noise_estimate.Tie as tie
 
-returns : tie.Need-returns
+returns : tie.Need-returns-then-refusal-ne0
 returns c =
-    let A = c.before.before.before.before.before.before.before.before.before.args in
-    c.refused.ensures ∙ estimate-refused A.s A.y.now A.cb.now A.cr.now A.y-den.now A.cb-den.now A.cr-den.now c.before.before.frame-refusal.ensures c.before.if1.true
+    let A = c.args in
+    c.refused.ensures ∙ estimate-refused A.s A.y.now A.cb.now A.cr.now A.y_den.now A.cb_den.now A.cr_den.now c.frame_refusal-refusal.ensures c.if-refusal-ne0.true
 
 -- the rectangle lies in the frame
-in_frame : (c : tie.Else1) → Inside c.before.before.before.before.before.before.before.before.args.s
-in_frame c = frame-inside _ _ _ _ _ _ _ (sym c.before.frame-refusal.ensures ∙ c.if1.false)
+in_frame : (c : tie.Else-refusal-ne0) → Inside c.args.s
+in_frame c = frame-inside _ _ _ _ _ _ _ (sym c.frame_refusal-refusal.ensures ∙ c.if-refusal-ne0.false)
 
-luma-profile-requires : tie.Need-luma-profile-requires
+luma-profile-requires : tie.Need-luma_profile-luma-requires
 luma-profile-requires c κs =
-    let A = c.before.before.before.before.before.before.before.before.before.before.args in
-    (estimate-seen A.s A.y.now A.cb.now A.cr.now A.y-den.now A.cb-den.now A.cr-den.now c.before.before.before.frame-refusal.ensures c.before.before.if1.false c.view-of2.ensures c.before.view_of.ensures).0
+    let A = c.args in
+    (estimate-seen A.s A.y.now A.cb.now A.cr.now A.y_den.now A.cb_den.now A.cr_den.now c.frame_refusal-refusal.ensures c.if-refusal-ne0.false c.view_of.ensures c.view_of-chroma.ensures).0
 
-chroma-profile-requires : tie.Need-chroma-profile-requires
+chroma-profile-requires : tie.Need-chroma_profile-blue-requires
 chroma-profile-requires c κs =
-    let A = c.before.before.before.before.before.before.before.before.before.before.before.args in
-    (estimate-seen A.s A.y.now A.cb.now A.cr.now A.y-den.now A.cb-den.now A.cr-den.now c.before.before.before.before.frame-refusal.ensures c.before.before.before.if1.false c.before.view-of2.ensures c.before.before.view_of.ensures).1
+    let A = c.args in
+    (estimate-seen A.s A.y.now A.cb.now A.cr.now A.y_den.now A.cb_den.now A.cr_den.now c.frame_refusal-refusal.ensures c.if-refusal-ne0.false c.view_of.ensures c.view_of-chroma.ensures).1
 
-chroma-profile-requires-2 : tie.Need-chroma-profile-requires-2
+chroma-profile-requires-2 : tie.Need-chroma_profile-red-requires
 chroma-profile-requires-2 c κs =
-    let A = c.before.before.before.before.before.before.before.before.before.before.before.before.args in
-    (estimate-seen A.s A.y.now A.cb.now A.cr.now A.y-den.now A.cb-den.now A.cr-den.now c.before.before.before.before.before.frame-refusal.ensures c.before.before.before.before.if1.false c.before.before.view-of2.ensures c.before.before.before.view_of.ensures).2
+    let A = c.args in
+    (estimate-seen A.s A.y.now A.cb.now A.cr.now A.y_den.now A.cb_den.now A.cr_den.now c.frame_refusal-refusal.ensures c.if-refusal-ne0.false c.view_of.ensures c.view_of-chroma.ensures).2
 
-returns-2 : tie.Need-returns-2
+returns-2 : tie.Need-returns
 returns-2 c =
-    let A = c.before.before.before.before.before.before.before.before.before.before.before.before.before.args in
-    estimate-accepted A.s A.y.now A.cb.now A.cr.now A.y-den.now A.cb-den.now A.cr-den.now c.before.before.before.before.before.before.frame-refusal.ensures c.before.before.before.before.before.if1.false c.before.before.before.view-of2.ensures c.before.before.before.before.view_of.ensures
-    c.before.before.luma-profile.ensures c.before.chroma-profile.ensures c.chroma-profile2.ensures
+    let A = c.args in
+    estimate-accepted A.s A.y.now A.cb.now A.cr.now A.y_den.now A.cb_den.now A.cr_den.now c.frame_refusal-refusal.ensures c.if-refusal-ne0.false c.view_of.ensures c.view_of-chroma.ensures
+    c.luma_profile-luma.ensures c.chroma_profile-blue.ensures c.chroma_profile-red.ensures
 
-pub noise-estimate-spec : {M : Type 1} → statement M
-noise-estimate-spec =
+pub noise_estimate_spec : {M : Type 1} → statement M
+noise_estimate_spec =
     tie.close
     (tie.spec
     (λ c. search rules)

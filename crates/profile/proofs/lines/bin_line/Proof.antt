@@ -8,20 +8,19 @@ use Rattle.profile.specs.Parts.{InPlane, coarse_at}
 use Rattle.profile.proofs.lines.bin_line.Statement.{statement}
 use Rattle.profile.proofs.lines.bin_line.Tie as tie
 
-bins-at-requires : tie.Need-bins-at-requires
+bins-at-requires : tie.Need-bins_at-requires
 bins-at-requires c κs =
-    let S = c.before.before.before.before in
-    let A = S.args in
-    (subst (λ (s : ℕ). InPlane A.src.now A.start s (length A.bins.now)) c.before.if1.true S.requires.0, S.requires.1)
+    let A = c.args in
+    (subst (λ (s : ℕ). InPlane A.src.now A.start s (length A.bins.now)) c.if-stride-eq1.true c.requires.0, c.requires.1)
 
-returns : tie.Need-returns
+returns : tie.Need-returns-then-stride-eq1
 returns c =
-    let A = c.before.before.before.before.before.before.before.args in
-    subst (λ (s : ℕ). c.before.before.bins-at.new.1.1.1.1.0 ≡ tabulate (length A.bins.now) (coarse_at A.src.now A.start s A.coarse))
-    (sym c.before.before.before.before.if1.true) c.before.before.bins-at.ensures
+    let A = c.args in
+    subst (λ (s : ℕ). c.bins_at.new.bins ≡ tabulate (length A.bins.now) (coarse_at A.src.now A.start s A.coarse))
+    (sym c.if-stride-eq1.true) c.bins_at.ensures
 
-pub bin-line-spec : {M : Type 1} → statement M
-bin-line-spec =
+pub bin_line_spec : {M : Type 1} → statement M
+bin_line_spec =
     tie.close
     (tie.spec
     bins-at-requires

@@ -9,24 +9,24 @@ use Rattle.profile.specs.Parts.{coarse_at}
 use Rattle.profile.proofs.lines.bins_at.Statement.{statement}
 use Rattle.profile.proofs.lines.bins_at.Tie as tie
 
-abbrev invariant-loop : tie.invariant-loop
+abbrev invariant-loop : tie.invariant-loop-i
 invariant-loop src start stride coarse bins₀ i₀ i-end bins i = Filled (coarse_at src start stride coarse) bins₀ bins i
 
-abbrev decreases-loop : tie.decreases-loop
+abbrev decreases-loop : tie.decreases-loop-i
 decreases-loop src start stride coarse bins₀ i₀ i-end bins i = i-end - i
 
 -- in a turn, the place lies in the plane
-in-plane : (c : tie.In-loop invariant-loop decreases-loop) → let A = c.before.before.args in A.start + c.before.loop.i * A.stride < length A.src.now
-in-plane c = c.before.before.requires.0 _ c.loop-test.true
+in-plane : (c : tie.In-loop-i invariant-loop decreases-loop) → let A = c.args in A.start + c.loop-i.i * A.stride < length A.src.now
+in-plane c = c.requires.0 _ c.loop-i-test.true
 
-loop-again : tie.Need-loop-preserved invariant-loop decreases-loop
-loop-again c = fill-turn _ _ _ c.before.before.loop.invariant (search rules) refl
+loop-again : tie.Need-loop-i-preserved invariant-loop decreases-loop
+loop-again c = fill-turn _ _ _ c.loop-i.invariant (search rules) refl
 
 returns : tie.Need-returns invariant-loop decreases-loop
-returns c = fill-ends _ _ c.before.loop.invariant (search rules)
+returns c = fill-ends _ _ c.loop-i.invariant (search rules)
 
-pub bins-at-spec : {M : Type 1} → statement M
-bins-at-spec =
+pub bins_at_spec : {M : Type 1} → statement M
+bins_at_spec =
     tie.close
     (tie.spec
     invariant-loop

@@ -11,33 +11,32 @@ use Rattle.profile.proofs.parts.shifted_part.Statement.{statement}
 use Rattle.profile.proofs.parts.shifted_part.Tie as tie
 
 -- the test
-tested : (c : tie.After-samples-low2) → let A = c.before.before.before.before.args in
-    (c.before.samples-low.result && c.samples-low2.result) ≡ all_low A.depth (A.src.now ∷ A.den.now ∷ [])
+tested : (c : tie.After-samples_low-2) → let A = c.args in
+    (c.samples_low.result && c.samples_low-2.result) ≡ all_low A.depth (A.src.now ∷ A.den.now ∷ [])
 unfolding all_low
 tested c =
-    let A = c.before.before.before.before.args in
-    (λ i. c.before.samples-low.ensures i && c.samples-low2.ensures i) ∙ ap (λ (t : Bool). low A.depth A.src.now && t) (sym (and-true (low A.depth A.den.now)))
+    let A = c.args in
+    (λ i. c.samples_low.ensures i && c.samples_low-2.ensures i) ∙ ap (λ (t : Bool). low A.depth A.src.now && t) (sym (and-true (low A.depth A.den.now)))
 
-lows : (c : tie.Then1) → let A = c.before.before.before.before.before.args in Low A.depth A.src.now A.den.now
-lows c = is-low _ _ _ (sym (tested c.before) ∙ c.if1.true)
+lows : (c : tie.Then-samples_low) → let A = c.args in Low A.depth A.src.now A.den.now
+lows c = is-low _ _ _ (sym (tested c.before) ∙ c.if-samples_low.true)
 
-noise-line-requires : tie.Need-noise-line-requires
-noise-line-requires c κs = let S = c.before.before.before.before.before.before in run-places (part-run S.requires.0 (lows c.before) _ S.requires.1)
+noise-line-requires : tie.Need-noise_line-requires
+noise-line-requires c κs = run-places (part-run c.requires.0 (lows c.before) _ c.requires.1)
 
-returns : tie.Need-returns
+returns : tie.Need-returns-then-samples_low
 returns c =
-    let S = c.before.before.before.before.before.before.before.before.before.before.before.before in
-    let A = S.args in
-    let T = c.before.before.before.before.before.before.before in (
-      sym T.if1.true ∙ tested T.before,
-      λ e. shift_line A.src.now A.den.now (A.depth - 8) _ _ S.requires.1 S.requires.2 c.before.before.before.before.before.noise-line.ensures c.before.shifted-line.ensures,
+    let A = c.args in
+    (
+      sym c.if-samples_low.true ∙ tested c.before.before.before.before.before.before.before,
+      λ e. shift_line A.src.now A.den.now (A.depth - 8) _ _ c.requires.1 c.requires.2 c.noise_line.ensures c.shifted_line.ensures,
     )
 
-returns-2 : tie.Need-returns-2
-returns-2 c = (sym c.if1.false ∙ tested c.before, λ e. absurd (false≢true e))
+returns-2 : tie.Need-returns
+returns-2 c = (sym c.if-samples_low.false ∙ tested c.before, λ e. absurd (false≢true e))
 
-pub shifted-part-spec : {M : Type 1} → statement M
-shifted-part-spec =
+pub shifted_part_spec : {M : Type 1} → statement M
+shifted_part_spec =
     tie.close
     (tie.spec
     (λ c κs. search rules)

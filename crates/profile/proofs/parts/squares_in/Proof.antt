@@ -10,24 +10,24 @@ use Rattle.profile.proofs.LowParts.{is-low, part_small}
 use Rattle.profile.proofs.parts.squares_in.Statement.{statement}
 use Rattle.profile.proofs.parts.squares_in.Tie as tie
 
-line-squares-requires : tie.Need-line-squares-requires
+line-squares-requires : tie.Need-line_squares-requires
 line-squares-requires c κs =
-    let P = c.before.before.before.before.shifted-part.ensures in
-    let t = c.before.if1.true in
-    part_small c.before.before.before.before.before.before.before.before.before.requires.0 (is-low _ _ _ (sym P.0 ∙ t)) (P.1 t)
+    let P = c.shifted_part.ensures in
+    let t = c.if-shifted_part.true in
+    part_small c.requires.0 (is-low _ _ _ (sym P.0 ∙ t)) (P.1 t)
 
-returns : tie.Need-returns
+returns : tie.Need-returns-then-shifted_part
 returns c =
-    let A = c.before.before.before.before.before.before.before.before.before.before.args in
-    let P = c.before.before.before.before.before.shifted-part.ensures in
-    let t = c.before.before.if1.true in
-    (sym t ∙ P.0, λ e. c.line-squares.ensures ∙ line-sum (length A.src.now) (shifted_noise (A.depth - 8) A.src.now A.den.now) (P.1 t))
+    let A = c.args in
+    let P = c.shifted_part.ensures in
+    let t = c.if-shifted_part.true in
+    (sym t ∙ P.0, λ e. c.line_squares.ensures ∙ line-sum (length A.src.now) (shifted_noise (A.depth - 8) A.src.now A.den.now) (P.1 t))
 
-returns-2 : tie.Need-returns-2
-returns-2 c = (sym c.if1.false ∙ c.before.before.before.shifted-part.ensures.0, λ e. absurd (false≢true e))
+returns-2 : tie.Need-returns
+returns-2 c = (sym c.if-shifted_part.false ∙ c.shifted_part.ensures.0, λ e. absurd (false≢true e))
 
-pub squares-in-spec : {M : Type 1} → statement M
-squares-in-spec =
+pub squares_in_spec : {M : Type 1} → statement M
+squares_in_spec =
     tie.close
     (tie.spec
     (λ c κs. search rules)

@@ -14,40 +14,40 @@ use Rattle.profile.proofs.Answered.{sigma-refused, sigma-accepted}
 use Rattle.profile.proofs.planes.plane_sigma16.Statement.{statement}
 use Rattle.profile.proofs.planes.plane_sigma16.Tie as tie
 
-returns : tie.Need-returns
+returns : tie.Need-returns-then-refusal-ne0
 returns c =
-    let A = c.before.before.before.before.args in
+    let A = c.args in
     sigma-refused A.width A.height A.depth A.src.now A.den.now
-    (plane-stopped A.width A.height A.depth A.src.now A.den.now c.before.pair-numbers.ensures c.if1.true) c.if1.true
+    (plane-stopped A.width A.height A.depth A.src.now A.den.now c.pair_numbers-refusal.ensures c.if-refusal-ne0.true) c.if-refusal-ne0.true
 
-plane-squares-requires : tie.Need-plane-squares-requires
+plane-squares-requires : tie.Need-plane_squares-squares-requires
 plane-squares-requires c κs =
-    let A = c.before.before.before.before.args in
-    plane-pair A.width A.height A.depth A.src.now A.den.now c.before.pair-numbers.ensures c.if1.false
+    let A = c.args in
+    plane-pair A.width A.height A.depth A.src.now A.den.now c.pair_numbers-refusal.ensures c.if-refusal-ne0.false
 
 -- the number, once the samples are asked about
-asked : (c : tie.After-plane-squares) → let A = c.before.before.before.before.before.args in
-    pair_refusal A.width A.height A.depth A.src.now A.den.now ≡ cond c.plane-squares.result.low 0 6
+asked : (c : tie.After-plane_squares-squares) → let A = c.args in
+    pair_refusal A.width A.height A.depth A.src.now A.den.now ≡ cond c.plane_squares-squares.result.low 0 6
 asked c =
-    let A = c.before.before.before.before.before.args in
-    plane-asked A.width A.height A.depth A.src.now A.den.now c.before.before.pair-numbers.ensures c.before.if1.false c.plane-squares.ensures.0
+    let A = c.args in
+    plane-asked A.width A.height A.depth A.src.now A.den.now c.pair_numbers-refusal.ensures c.if-refusal-ne0.false c.plane_squares-squares.ensures.0
 
-returns-2 : tie.Need-returns-2
+returns-2 : tie.Need-returns-then-not-squares
 returns-2 c =
-    let A = c.before.before.before.before.before.before.before.args in
+    let A = c.args in
     sigma-refused A.width A.height A.depth A.src.now A.den.now
-    (sym (asked c.before.before ∙ ap (λ (t : Bool). cond t 0 6) (not-true c.before.before.plane-squares.result.low c.if2.true))) (λ e. omega arith)
+    (sym (asked c.before.before ∙ ap (λ (t : Bool). cond t 0 6) (not-true c.plane_squares-squares.result.low c.if-not-squares.true))) (λ e. omega arith)
 
-returns-3 : tie.Need-returns-3
+returns-3 : tie.Need-returns
 unfolding plane_sigma16
 returns-3 c =
-    let A = c.before.before.before.before.before.before.before.before.args in
-    let low = not-false c.before.before.before.plane-squares.result.low c.before.if2.false in
+    let A = c.args in
+    let low = not-false c.plane_squares-squares.result.low c.if-not-squares.false in
     sigma-accepted A.width A.height A.depth A.src.now A.den.now
-    (sym (asked c.before.before.before ∙ ap (λ (t : Bool). cond t 0 6) low)) refl (c.sigma16.ensures ∙ ap (λ (sq : ℕ). sigma16_of sq (length A.src.now)) (c.before.before.before.plane-squares.ensures.1 low))
+    (sym (asked c.before.before.before ∙ ap (λ (t : Bool). cond t 0 6) low)) refl (c.sigma16.ensures ∙ ap (λ (sq : ℕ). sigma16_of sq (length A.src.now)) (c.plane_squares-squares.ensures.1 low))
 
-pub plane-sigma16-spec : {M : Type 1} → statement M
-plane-sigma16-spec =
+pub plane_sigma16_spec : {M : Type 1} → statement M
+plane_sigma16_spec =
     tie.close
     (tie.spec
     (λ c κs. search rules)

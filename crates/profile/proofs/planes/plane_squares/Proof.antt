@@ -15,59 +15,57 @@ use Rattle.profile.proofs.StepSums.{plane-sum}
 use Rattle.profile.proofs.planes.plane_squares.Statement.{statement}
 use Rattle.profile.proofs.planes.plane_squares.Tie as tie
 
-abbrev invariant-loop : tie.invariant-loop
+abbrev invariant-loop : tie.invariant-loop-from
 invariant-loop src den depth n sum₀ from₀ sum from =
     (n ≡ length src) × (from ≤ n) × LowTo depth src den from × (sum ≡ sum_n (square (depth - 8) src den) from)
 
-abbrev decreases-loop : tie.decreases-loop
+abbrev decreases-loop : tie.decreases-loop-from
 decreases-loop src den depth n sum₀ from₀ sum from = n - from
 
-loop-holds : tie.Need-loop-init invariant-loop decreases-loop
+loop-holds : tie.Need-loop-from-init invariant-loop decreases-loop
 unfolding total
 loop-holds c = (refl, omega arith, low-none _ _ _, refl)
 
 -- the next part
-inside : (c : tie.After-part-size invariant-loop decreases-loop) → c.before.before.loop.from + c.part-size.result ≤ length c.before.before.before.before.before.args.src.now
+inside : (c : tie.After-part_size invariant-loop decreases-loop) → c.loop-from.from + c.part_size.result ≤ length c.args.src.now
 inside c = omega arith
 
-part-squares-requires : tie.Need-part-squares-requires invariant-loop decreases-loop
-part-squares-requires c κs = part_pair c.before.before.before.before.before.before.before.requires c.before.before.before.before.loop.from c.before.before.part-size.result (inside c.before.before) (omega arith)
+part-squares-requires : tie.Need-part_squares-part-requires invariant-loop decreases-loop
+part-squares-requires c κs = part_pair c.requires c.loop-from.from c.part_size.result (inside c.before.before) (omega arith)
 
-returns : tie.Need-returns invariant-loop decreases-loop
+returns : tie.Need-returns-then-not-part invariant-loop decreases-loop
 returns c =
-    (sym (not_low c.before.before.before.before.before.before.before.before.before.before.requires c.before.before.before.before.before.before.before.loop.from c.before.before.before.before.before.part-size.result (inside c.before.before.before.before.before) (sym c.before.before.part-squares.ensures.0 ∙ not-true _ c.if1.true)), λ e. absurd (false≢true e))
+    (sym (not_low c.requires c.loop-from.from c.part_size.result (inside c.before.before.before.before.before) (sym c.part_squares-part.ensures.0 ∙ not-true _ c.if-not-part.true)), λ e. absurd (false≢true e))
 
 -- the samples passed with the part, and the sum
-low : (c : tie.After-struct-known2 invariant-loop decreases-loop) → let A = c.before.before.before.before.before.before.before.before.before.before.before.args in LowTo A.depth A.src.now A.den.now (c.before.before.before.before.before.before.before.before.loop.from + c.before.before.before.before.before.before.part-size.result)
+low : (c : tie.After-struct_known-in-loop-from-1 invariant-loop decreases-loop) → let A = c.args in LowTo A.depth A.src.now A.den.now (c.loop-from.from + c.part_size.result)
 low c =
-    low-more c.before.before.before.before.before.before.before.before.before.before.before.requires c.before.before.before.before.before.before.before.before.loop.from c.before.before.before.before.before.before.part-size.result (inside c.before.before.before.before.before.before) c.before.before.before.before.before.before.before.before.loop.invariant.2
-    (is-low _ _ _ (sym c.before.before.before.part-squares.ensures.0 ∙ not-false _ c.before.if1.false))
+    low-more c.requires c.loop-from.from c.part_size.result (inside c.before.before.before.before.before.before) c.loop-from.invariant.2
+    (is-low _ _ _ (sym c.part_squares-part.ensures.0 ∙ not-false _ c.if-not-part.false))
 
-more : (c : tie.After-struct-known2 invariant-loop decreases-loop) → let A = c.before.before.before.before.before.before.before.before.before.before.before.args in
-    c.before.before.before.before.before.before.before.before.loop.sum + c.before.before.before.part-squares.result.sum ≡ sum_n (square (A.depth - 8) A.src.now A.den.now) (c.before.before.before.before.before.before.before.before.loop.from + c.before.before.before.before.before.before.part-size.result)
+more : (c : tie.After-struct_known-in-loop-from-1 invariant-loop decreases-loop) → let A = c.args in
+    c.loop-from.sum + c.part_squares-part.result.sum ≡ sum_n (square (A.depth - 8) A.src.now A.den.now) (c.loop-from.from + c.part_size.result)
 more c =
-    let S = c.before.before.before.before.before.before.before.before.before.before.before in
-    let from = c.before.before.before.before.before.before.before.before.loop.from in
-    let m = c.before.before.before.before.before.before.part-size.result in
-    (λ i. c.before.before.before.before.before.before.before.before.loop.invariant.3 i + c.before.before.before.part-squares.ensures.1 (not-false _ c.before.if1.false) i)
-    ∙ part-more S.requires from m (inside c.before.before.before.before.before.before) _ _ (square-part S.requires from m (inside c.before.before.before.before.before.before) (S.args.depth - 8))
+    let from = c.loop-from.from in
+    let m = c.part_size.result in
+    (λ i. c.loop-from.invariant.3 i + c.part_squares-part.ensures.1 (not-false _ c.if-not-part.false) i)
+    ∙ part-more c.requires from m (inside c.before.before.before.before.before.before) _ _ (square-part c.requires from m (inside c.before.before.before.before.before.before) (c.args.depth - 8))
 
-add-sum : tie.Need-overflow-add-sum invariant-loop decreases-loop
+add-sum : tie.Need-overflow_add-sum invariant-loop decreases-loop
 add-sum c =
-    rw (more c) (record { fits = omega (arith, c.before.before.before.before.before.before.before.before.before.before.before.requires.few, inside c.before.before.before.before.before.before, sum_bound square_limit _ _ (square-small c.before.before.before.before.before.before.before.before.before.before.before.requires (low c))) })
+    rw (more c) (record { fits = omega (arith, c.requires.few, inside c.before.before.before.before.before.before, sum_bound square_limit _ _ (square-small c.requires (low c))) })
 
-loop-again : tie.Need-loop-preserved invariant-loop decreases-loop
+loop-again : tie.Need-loop-from-preserved invariant-loop decreases-loop
 loop-again c = (refl, inside c.before.before.before.before.before.before, low c, more c)
 
-returns-2 : tie.Need-returns-2 invariant-loop decreases-loop
+returns-2 : tie.Need-returns invariant-loop decreases-loop
 returns-2 c =
-    let S = c.before.before.before.before in
-    let H = c.before.loop in
-    let e : H.from ≡ length S.args.src.now = omega arith in
-    (sym (low-all S.requires (rw e at H.invariant.2)), λ t. rw e at H.invariant.3 ∙ sym (plane-sum _ _ _))
+    let H = c.loop-from in
+    let e : H.from ≡ length c.args.src.now = omega arith in
+    (sym (low-all c.requires (rw e at H.invariant.2)), λ t. rw e at H.invariant.3 ∙ sym (plane-sum _ _ _))
 
-pub plane-squares-spec : {M : Type 1} → statement M
-plane-squares-spec =
+pub plane_squares_spec : {M : Type 1} → statement M
+plane_squares_spec =
     tie.close
     (tie.spec
     invariant-loop

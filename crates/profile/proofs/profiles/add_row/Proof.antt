@@ -12,72 +12,69 @@ use Rattle.profile.proofs.Rows.{part-run, part_none, part_room, part-more}
 use Rattle.profile.proofs.profiles.add_row.Statement.{statement}
 use Rattle.profile.proofs.profiles.add_row.Tie as tie
 
-abbrev invariant-loop : tie.invariant-loop
+abbrev invariant-loop : tie.invariant-loop-from
 invariant-loop src den start stride width depth bits count₀ squares₀ line₀ bins₀ own₀ from₀ count squares line bins own from =
     (from ≤ width) × (length count ≡ length count₀) × (length squares ≡ length squares₀)
     × (length line ≡ part_limit) × (length bins ≡ part_limit) × (length own ≡ part_limit)
     × RunAdded bits depth src den start stride from count₀ squares₀ count squares
 
-abbrev decreases-loop : tie.decreases-loop
+abbrev decreases-loop : tie.decreases-loop-from
 decreases-loop src den start stride width depth bits count₀ squares₀ line₀ bins₀ own₀ from₀ count squares line bins own from = width - from
 
-loop-holds : tie.Need-loop-init invariant-loop decreases-loop
-loop-holds c = let S = c.before.before.before.before.before.before.before in (omega arith, refl, refl, search rules, search rules, search rules, part_none S.requires.0 S.args.bits S.requires.1)
+loop-holds : tie.Need-loop-from-init invariant-loop decreases-loop
+loop-holds c = (omega arith, refl, refl, search rules, search rules, search rules, part_none c.requires.0 c.args.bits c.requires.1)
 
 -- the part that begins at `from`
-mul-add-part : tie.Need-overflow-mul-add-part invariant-loop decreases-loop
-mul-add-part c = omega (arith, c.before.before.before.before.before.before.before.before.before.before.requires.0.places.inside c.before.before.loop.from c.before.loop-test.true)
+mul-add-part : tie.Need-overflow_mul-from invariant-loop decreases-loop
+mul-add-part c = omega (arith, c.requires.0.places.inside c.loop-from.from c.loop-from-test.true)
 
-add-add-part : tie.Need-overflow-add-add-part invariant-loop decreases-loop
-add-add-part c = omega (arith, c.before.before.before.before.before.before.before.before.before.before.requires.0.places.inside c.before.before.loop.from c.before.loop-test.true)
+add-add-part : tie.Need-overflow_add-start invariant-loop decreases-loop
+add-add-part c = omega (arith, c.requires.0.places.inside c.loop-from.from c.loop-from-test.true)
 
-slice-aggregate-add-part : tie.Need-slice-aggregate-add-part invariant-loop decreases-loop
-slice-aggregate-add-part c = sym (length-take-le c.before.part-size.result c.before.before.before.loop.line (search rules))
+slice-aggregate-add-part : tie.Need-slice_bounds-add_part-end invariant-loop decreases-loop
+slice-aggregate-add-part c = sym (length-take-le c.part_size-n.result c.loop-from.line (search rules))
 
-slice-aggregate-add-part-2 : tie.Need-slice-aggregate-add-part-2 invariant-loop decreases-loop
-slice-aggregate-add-part-2 c = sym (length-take-le c.before.before.part-size.result c.before.before.before.before.loop.bins (search rules))
+slice-aggregate-add-part-2 : tie.Need-slice_bounds-add_part-end-in-loop-from invariant-loop decreases-loop
+slice-aggregate-add-part-2 c = sym (length-take-le c.part_size-n.result c.loop-from.bins (search rules))
 
-slice-aggregate-add-part-3 : tie.Need-slice-aggregate-add-part-3 invariant-loop decreases-loop
-slice-aggregate-add-part-3 c = sym (length-take-le c.before.before.before.part-size.result c.before.before.before.before.before.loop.own (search rules))
+slice-aggregate-add-part-3 : tie.Need-slice_bounds-add_part-end-in-loop-from-2 invariant-loop decreases-loop
+slice-aggregate-add-part-3 c = sym (length-take-le c.part_size-n.result c.loop-from.own (search rules))
 
-add-part-requires : tie.Need-add-part-requires invariant-loop decreases-loop
+add-part-requires : tie.Need-add_part-requires invariant-loop decreases-loop
 add-part-requires c κs =
-    let S = c.before.before.before.before.before.before.before.before.before.before.before.before.before.before.before in
-    let H = c.before.before.before.before.before.before.before.loop in
-    let n = c.before.before.before.before.before.part-size.result in
-    let l : H.from + n ≤ S.args.width = omega (arith, c.before.before.before.before.before.part-size.ensures) in
-    let line = sym (slice-aggregate-add-part c.before.before.before.before) in
-    let bins = sym (slice-aggregate-add-part-2 c.before.before.before) in
-    let own = sym (slice-aggregate-add-part-3 c.before.before) in
+    let H = c.loop-from in
+    let n = c.part_size-n.result in
+    let l : H.from + n ≤ c.args.width = omega (arith, c.part_size-n.ensures) in
+    let line = length-take-le n H.line (search rules) in
+    let bins = length-take-le n H.bins (search rules) in
+    let own = length-take-le n H.own (search rules) in
     rw line
-    (part-run S.requires.0 H.from n c.before.before.before.before.before.before.loop-test.true l, omega (arith, c.before.before.before.before.before.part-size.ensures), bins, own, part_room S.requires.0 S.args.bits S.requires.1 H.from H.invariant.6 n l)
+    (part-run c.requires.0 H.from n c.loop-from-test.true l, omega (arith, c.part_size-n.ensures), bins, own, part_room c.requires.0 c.args.bits c.requires.1 H.from H.invariant.6 n l)
 
-loop-less : tie.Need-loop-smaller invariant-loop decreases-loop
-loop-less c = omega (arith, c.before.before.before.before.before.before.before.before.before.before.before.before.before.part-size.ensures, c.before.before.before.before.before.before.before.before.before.before.before.before.before.before.loop-test.true)
+loop-less : tie.Need-loop-from-smaller invariant-loop decreases-loop
+loop-less c = omega (arith, c.part_size-n.ensures, c.loop-from-test.true)
 
-loop-again : tie.Need-loop-preserved invariant-loop decreases-loop
+loop-again : tie.Need-loop-from-preserved invariant-loop decreases-loop
 loop-again c =
-    let S = c.before.before.before.before.before.before.before.before.before.before.before.before.before.before.before.before.before.before.before.before.before.before.before in
-    let H = c.before.before.before.before.before.before.before.before.before.before.before.before.before.before.before.loop in
-    let n = c.before.before.before.before.before.before.before.before.before.before.before.before.before.part-size.result in
-    let l : H.from + n ≤ S.args.width = omega (arith, c.before.before.before.before.before.before.before.before.before.before.before.before.before.part-size.ensures) in
-    let K = c.before.before.before.before.before.before.before.add-part.auto.1.1.1.1.1.1 in
-    let L = c.before.before.before.before.before.before.before.add-part.new.1.1.1.1.1.1 in
-    let size = sym (slice-aggregate-add-part c.before.before.before.before.before.before.before.before.before.before.before.before) in (
+    let H = c.loop-from in
+    let n = c.part_size-n.result in
+    let l : H.from + n ≤ c.args.width = omega (arith, c.part_size-n.ensures) in
+    let L = c.add_part.new in
+    let size = length-take-le n H.line (search rules) in (
       l,
-      K.1.1.1.0 ∙ H.invariant.1,
-      K.1.1.1.1.0 ∙ H.invariant.2,
-      front_length n L.0 H.line K.0 ∙ H.invariant.3,
-      front_length n L.1.0 H.bins K.1.0 ∙ H.invariant.4,
-      front_length n L.1.1.0 H.own K.1.1.0 ∙ H.invariant.5,
-      part-more S.requires.0 S.args.bits S.requires.1 H.from H.invariant.6 n (rw size at c.before.before.before.before.before.before.before.add-part.ensures),
+      c.add_part.auto.count ∙ H.invariant.1,
+      c.add_part.auto.squares ∙ H.invariant.2,
+      front_length n L.line H.line c.add_part.auto.line ∙ H.invariant.3,
+      front_length n L.bins H.bins c.add_part.auto.bins ∙ H.invariant.4,
+      front_length n L.own H.own c.add_part.auto.own ∙ H.invariant.5,
+      part-more c.requires.0 c.args.bits c.requires.1 H.from H.invariant.6 n (rw size at c.add_part.ensures),
     )
 
 returns : tie.Need-returns invariant-loop decreases-loop
-returns c = let e : c.before.loop.from ≡ c.before.before.before.before.before.before.before.before.before.args.width = omega arith in rw e at c.before.loop.invariant.6
+returns c = let e : c.loop-from.from ≡ c.args.width = omega arith in rw e at c.loop-from.invariant.6
 
-pub add-row-spec : {M : Type 1} → statement M
-add-row-spec =
+pub add_row_spec : {M : Type 1} → statement M
+add_row_spec =
     tie.close
     (tie.spec
     invariant-loop

@@ -7,20 +7,20 @@ use Rattle.profile.specs.Steps.{sigma_of_bin}
 use Rattle.profile.proofs.profiles.fill_sigma16.Statement.{statement}
 use Rattle.profile.proofs.profiles.fill_sigma16.Tie as tie
 
-abbrev invariant-loop : tie.invariant-loop
+abbrev invariant-loop : tie.invariant-loop-j
 invariant-loop enough plane count squares sigma₀ j₀ j-end sigma j = Filled (λ k. sigma_of_bin enough plane (get_or squares k 0) (get_or count k 0)) sigma₀ sigma j
 
-abbrev decreases-loop : tie.decreases-loop
+abbrev decreases-loop : tie.decreases-loop-j
 decreases-loop enough plane count squares sigma₀ j₀ j-end sigma j = length sigma₀ - j
 
-loop-again : tie.Need-loop-preserved invariant-loop decreases-loop
-loop-again c = fill-turn _ _ _ c.before.before.before.before.loop.invariant (search rules) c.bin-sigma16.ensures
+loop-again : tie.Need-loop-j-preserved invariant-loop decreases-loop
+loop-again c = fill-turn _ _ _ c.loop-j.invariant (search rules) c.bin_sigma16.ensures
 
 returns : tie.Need-returns invariant-loop decreases-loop
-returns c = fill-ends _ _ c.before.loop.invariant (search rules)
+returns c = fill-ends _ _ c.loop-j.invariant (search rules)
 
-pub fill-sigma16-spec : {M : Type 1} → statement M
-fill-sigma16-spec =
+pub fill_sigma16_spec : {M : Type 1} → statement M
+fill_sigma16_spec =
     tie.close
     (tie.spec
     invariant-loop

@@ -12,29 +12,26 @@ use Rattle.profile.proofs.Rows.{shown-low}
 use Rattle.profile.proofs.profiles.plane_profile.Statement.{statement}
 use Rattle.profile.proofs.profiles.plane_profile.Tie as tie
 
-mul-n : tie.Need-overflow-mul-n
-mul-n c = let S = c.before.before.before.before.before.before.before.before.before.before.before.before.before in area-fits S.requires.0.seen.narrow S.requires.0.seen.low
+mul-n : tie.Need-overflow_mul-n
+mul-n c = area-fits c.requires.0.seen.narrow c.requires.0.seen.low
 
-sum-of-requires : tie.Need-sum-of-requires
-sum-of-requires c κs = let S = c.before.before.before.before.before.before.before.before.before.before.before.before.before.before in bins-fit (shown-low S.requires.0) S.args.bits c.before.before.before.before.before.before.view-bins.ensures.1
+sum-of-requires : tie.Need-sum_of-requires
+sum-of-requires c κs = bins-fit (shown-low c.requires.0) c.args.bits c.view_bins.ensures.1
 
-fill-sigma16-requires : tie.Need-fill-sigma16-requires
+fill-sigma16-requires : tie.Need-fill_sigma16-requires
 fill-sigma16-requires c κs =
-    let S = c.before.before.before.before.before.before.before.before.before.before.before.before.before.before.before.before.before.before.before.before in
-    let K = c.before.before.before.before.before.before.before.before.before.before.before.before.view-bins.auto.1.1.1.1.1 in
-    let T = blank-tables S.requires.1 in
-    (K.0 ∙ T.counts ∙ sym S.requires.2, K.1.0 ∙ T.sums ∙ sym S.requires.2)
+    let T = blank-tables c.requires.1 in
+    (c.view_bins.auto.count ∙ T.counts ∙ sym c.requires.2, c.view_bins.auto.squares ∙ T.sums ∙ sym c.requires.2)
 
 returns : tie.Need-returns
 returns c =
-    let S = c.before.before.before.before.before.before.before.before.before.before.before.before.before.before.before.before.before.before.before.before.before.before.before in
-    let A = S.args in
-    let E = c.before.before.before.before.before.before.before.before.before.before.before.before.before.before.before.view-bins.ensures in
+    let A = c.args in
+    let E = c.view_bins.ensures in
     figures A.bits A.least (A.depth - 8) (viewed A.view A.src.now) (viewed A.view A.den.now) E.0 E.1 (sym (viewed-length A.view A.src.now))
-    (c.before.before.before.before.before.before.before.sigma16.ensures ∙ ap (λ (s : ℕ). sigma16_of s (A.view.width * A.view.height)) c.before.before.before.before.before.before.before.before.sum_of.ensures) c.before.before.before.before.before.before.least-count.ensures S.requires.2 c.before.before.fill-sigma16.ensures
+    (c.sigma16-plane.ensures ∙ ap (λ (s : ℕ). sigma16_of s (A.view.width * A.view.height)) c.sum_of.ensures) c.least_count.ensures c.requires.2 c.fill_sigma16.ensures
 
-pub plane-profile-spec : {M : Type 1} → statement M
-plane-profile-spec =
+pub plane_profile_spec : {M : Type 1} → statement M
+plane_profile_spec =
     tie.close
     (tie.spec
     (λ c. search rules)
