@@ -1,4 +1,4 @@
-// A reader of a plane: its rows, its columns and its samples, which are lent. The functions over it are thin and proved by hand; what they answer is worked out by covered code, which takes the slice and the numbers.
+// A reader of a plane: its rows, its columns and its samples, which are lent. The functions over it are thin; what they answer is worked out by functions that take the slice and the numbers.
 #![tactic(auto)]
 
 ghost use Rattle.std.specs.Prelude.{◌≡◌, ◌<◌};

@@ -6,29 +6,29 @@ use Rattle.float.specs.Reading.{both}
 use Rattle.fit.proofs.apart.Statement.{statement}
 use Rattle.fit.proofs.apart.Tie as tie
 
-abbrev invariant-loop : tie.invariant-loop
+abbrev invariant-loop : tie.invariant-loop-i
 invariant-loop values₀ marks₀ x i₀ i-end values marks i =
     Filled (λ k. (get_or x k both.unquantised).coefficient) values₀ values i
     × Filled (λ k. (get_or x k both.unquantised).mark) marks₀ marks i
 
-abbrev decreases-loop : tie.decreases-loop
+abbrev decreases-loop : tie.decreases-loop-i
 decreases-loop values₀ marks₀ x i₀ i-end values marks i = length marks₀ - i
 
-loop-again : tie.Need-loop-preserved invariant-loop decreases-loop
+loop-again : tie.Need-loop-i-preserved invariant-loop decreases-loop
 loop-again c =
-    let F = c.before.before.before.loop.invariant in
+    let F = c.loop-i.invariant in
     (fill-turn _ _ _ F.0 (search rules) (to_z-of_z w32 _ (search rules)), fill-turn _ _ _ F.1 (search rules) refl)
 
 returns : tie.Need-returns invariant-loop decreases-loop
 returns c =
-    let F = c.before.loop.invariant in
+    let F = c.loop-i.invariant in
     record {
-      values-are = rw (← c.before.before.requires.0) (fill-ends _ _ F.0 (search rules));
+      values-are = rw (← c.requires.0) (fill-ends _ _ F.0 (search rules));
       marks-are = fill-ends _ _ F.1 (search rules);
     }
 
-pub apart-spec : {M : Type 1} → statement M
-apart-spec =
+pub apart_spec : {M : Type 1} → statement M
+apart_spec =
     tie.close
     (tie.spec
     invariant-loop

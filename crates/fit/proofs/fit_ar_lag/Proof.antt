@@ -10,57 +10,51 @@ use Rattle.fit.proofs.fit_ar_lag.Statement.{statement}
 use Rattle.fit.proofs.fit_ar_lag.Tie as tie
 
 -- what is known once the questions are passed
-granted : (c : tie.Else1) → (let a = c.before.before.before.before.before.before.before.before.args in SeenFrame (geometry_of a.s) a.y.now a.yden.now a.cb.now a.cbden.now a.cr.now a.crden.now × (a.lag ≤ 3))
-granted c = fit-seen _ _ _ _ _ _ _ _ (sym c.before.fit-refusal.ensures ∙ c.if1.false)
+granted : (c : tie.Else-refused-ne0) → (let a = c.args in SeenFrame (geometry_of a.s) a.y.now a.yden.now a.cb.now a.cbden.now a.cr.now a.crden.now × (a.lag ≤ 3))
+granted c = fit-seen _ _ _ _ _ _ _ _ (sym c.fit_refusal-refused.ensures ∙ c.if-refused-ne0.false)
 
-geometry-of-requires : tie.Need-geometry-of-requires
-geometry-of-requires c κs = fit-inside _ _ _ _ _ _ _ _ (sym c.before.fit-refusal.ensures ∙ c.if1.false)
+geometry-of-requires : tie.Need-geometry_of-geometry-requires
+geometry-of-requires c κs = fit-inside _ _ _ _ _ _ _ _ (sym c.fit_refusal-refused.ensures ∙ c.if-refused-ne0.false)
 
 -- luma's list of both, apart
-abbrev parted : tie.After-all-zero → tie.After-apart
+abbrev parted : tie.After-all_zero → tie.After-apart
 parted c = c.before.before.before
 
-abbrev solved : tie.After-all-zero → tie.After-luma-fit
+abbrev solved : tie.After-all_zero → tie.After-luma_fit
 solved c = (parted c).before.before.before
 
-returns : tie.Need-returns
-returns c = c.unfitted.ensures ∙ refused _ _ _ _ _ _ _ _ _ c.before.before.fit-refusal.ensures c.before.if1.true
+returns : tie.Need-returns-then-refused-ne0
+returns c = c.unfitted.ensures ∙ refused _ _ _ _ _ _ _ _ _ c.fit_refusal-refused.ensures c.if-refused-ne0.true
 
-luma-fit-requires : tie.Need-luma-fit-requires
-luma-fit-requires c κs = let g = granted c.before.before in (rw c.before.geometry-of.ensures g.0.luma, g.1)
+luma-fit-requires : tie.Need-luma_fit-requires
+luma-fit-requires c κs = let g = granted c.before.before.before in (rw c.geometry_of-geometry.ensures g.0.luma, g.1)
 
-all-zero-requires : tie.Need-all-zero-requires
+all-zero-requires : tie.Need-all_zero-requires
 all-zero-requires c κs =
-    let k = c.before.before.before.before.before.before in
-    omega (arith, neighbours-le (granted k.before.before).1, k.neighbour-count.ensures)
+    omega (arith, neighbours-le (granted c.before.before.before.before.before.before.before.before.before).1, c.neighbour_count-count.ensures)
 
-returns-2 : tie.Need-returns-2
+returns-2 : tie.Need-returns-then-all_zero
 returns-2 c =
-    let t = c.before.before in
-    let l = solved t in
+    let l = solved c.before.before in
     let k = l.before.before.before in
-    c.unfitted2.ensures
-    ∙ none _ _ _ _ _ _ _ _ _ k.before.fit-refusal.ensures k.if1.left _ l.before.before.geometry-of.ensures _ l.before.neighbour-count.ensures _ l.luma-fit.ensures _ _ (parted t).apart.ensures _ t.all-zero.ensures c.before.if2.true
+    c.unfitted-then-all_zero.ensures
+    ∙ none _ _ _ _ _ _ _ _ _ k.before.fit-refusal.ensures k.if1.left _ l.before.before.geometry-of.ensures _ l.before.neighbour-count.ensures _ l.luma-fit.ensures _ _ (parted c.before.before).apart.ensures _ c.all_zero.ensures c.if-all_zero.true
 
-chroma-fit-requires : tie.Need-chroma-fit-requires
+chroma-fit-requires : tie.Need-chroma_fit-chroma-requires
 chroma-fit-requires c κs =
     let l = solved c.before in
     let g = granted l.before.before.before in
     (rw l.before.before.geometry-of.ensures g.0, g.1)
 
-returns-3 : tie.Need-returns-3
+returns-3 : tie.Need-returns
 returns-3 c =
-    let r = c.before.before in
-    let b = r.before.before.before.before.before in
-    let h = b.before.before.before.before.before in
-    let t = h.before.before in
-    let l = solved t in
+    let l = solved c.before.before.before.before.before.before.before.before.before.before.before.before.before.before in
     let k = l.before.before.before in
-    some _ _ _ _ _ _ _ _ _ k.before.fit-refusal.ensures k.if1.left _ l.before.before.geometry-of.ensures _ l.before.neighbour-count.ensures _ l.luma-fit.ensures _ _ (parted t).apart.ensures _ t.all-zero.ensures h.before.if2.false
-    _ _ h.chroma-fit.ensures.0 h.chroma-fit.ensures.1 _ _ b.apart2.ensures _ _ r.apart3.ensures
+    some _ _ _ _ _ _ _ _ _ k.before.fit-refusal.ensures k.if1.left _ l.before.before.geometry-of.ensures _ l.before.neighbour-count.ensures _ l.luma-fit.ensures _ _ (parted c.before.before.before.before.before.before.before.before.before.before.before.before.before.before).apart.ensures _ c.all_zero.ensures c.if-all_zero.false
+    _ _ c.chroma_fit-chroma.ensures.0 c.chroma_fit-chroma.ensures.1 _ _ c.apart-2.ensures _ _ c.apart-3.ensures
 
-pub fit-ar-lag-spec : {M : Type 1} → statement M
-fit-ar-lag-spec =
+pub fit_ar_lag_spec : {M : Type 1} → statement M
+fit_ar_lag_spec =
     tie.close
     (tie.spec
     (λ c κs. search rules)

@@ -8,24 +8,23 @@ use Rattle.gate.proofs.Answers.{chroma-refused, chroma-answered}
 use Rattle.gate.proofs.chroma_noise_gate.Statement.{statement}
 use Rattle.gate.proofs.chroma_noise_gate.Tie as tie
 
-returns : tie.Need-returns
-returns c = c.refused-gate.ensures ∙ chroma-refused _ _ _ _ _ _ c.before.before.gate-refusal.ensures c.before.if1.true
+returns : tie.Need-returns-then-n-ne0
+returns c = c.refused_gate.ensures ∙ chroma-refused _ _ _ _ _ _ c.gate_refusal-n.ensures c.if-n-ne0.true
 
-view-of-requires : tie.Need-view-of-requires
-view-of-requires c κs = gate-inside _ CbCr _ _ _ _ (sym c.before.gate-refusal.ensures ∙ c.if1.false)
+view-of-requires : tie.Need-view_of-view-requires
+view-of-requires c κs = gate-inside _ CbCr _ _ _ _ (sym c.gate_refusal-n.ensures ∙ c.if-n-ne0.false)
 
-chroma-finding-requires : tie.Need-chroma-finding-requires
+chroma-finding-requires : tie.Need-chroma_finding-requires
 chroma-finding-requires c κs =
-    let e = sym c.before.before.gate-refusal.ensures ∙ c.before.if1.false in
-    rw c.view_of.ensures (first-seen _ CbCr _ _ _ _ e, second-seen _ CbCr _ _ _ _ e)
+    let e = sym c.gate_refusal-n.ensures ∙ c.if-n-ne0.false in
+    rw c.view_of-view.ensures (first-seen _ CbCr _ _ _ _ e, second-seen _ CbCr _ _ _ _ e)
 
-returns-2 : tie.Need-returns-2
+returns-2 : tie.Need-returns
 returns-2 c =
-    let k = c.before.before.before in
-    c.found-gate.ensures ∙ ap found_gate c.before.chroma-finding.ensures ∙ chroma-answered _ _ _ _ _ _ k.before.gate-refusal.ensures k.if1.false c.before.before.view_of.ensures
+    c.found_gate.ensures ∙ ap found_gate c.chroma_finding.ensures ∙ chroma-answered _ _ _ _ _ _ c.gate_refusal-n.ensures c.if-n-ne0.false c.view_of-view.ensures
 
-pub chroma-noise-gate-spec : {M : Type 1} → statement M
-chroma-noise-gate-spec =
+pub chroma_noise_gate_spec : {M : Type 1} → statement M
+chroma_noise_gate_spec =
     tie.close
     (tie.spec
     (λ c κs. search rules)

@@ -9,29 +9,28 @@ use Rattle.gate.proofs.Answers.{luma-refused, luma-answered}
 use Rattle.gate.proofs.film_grain_probe.Statement.{statement}
 use Rattle.gate.proofs.film_grain_probe.Tie as tie
 
-returns : tie.Need-returns
-returns c = c.refused-gate.ensures ∙ luma-refused _ _ _ _ _ c.before.before.gate-refusal.ensures c.before.if1.true
+returns : tie.Need-returns-then-n-ne0
+returns c = c.refused_gate.ensures ∙ luma-refused _ _ _ _ _ c.gate_refusal-n.ensures c.if-n-ne0.true
 
 -- the questions are passed
-passed : (c : tie.Else1) → let A = c.before.before.before.before.before.before.args in gate_refusal A.s Y A.src0.now A.den0.now A.src1.now A.den1.now ≡ 0
-passed c = sym c.before.gate-refusal.ensures ∙ c.if1.false
+passed : (c : tie.Else-n-ne0) → let A = c.args in gate_refusal A.s Y A.src0.now A.den0.now A.src1.now A.den1.now ≡ 0
+passed c = sym c.gate_refusal-n.ensures ∙ c.if-n-ne0.false
 
-view-of-requires : tie.Need-view-of-requires
+view-of-requires : tie.Need-view_of-view-requires
 view-of-requires c κs = gate-inside _ Y _ _ _ _ (passed c)
 
-luma-finding-requires : tie.Need-luma-finding-requires
+luma-finding-requires : tie.Need-luma_finding-requires
 luma-finding-requires c κs =
     let e = passed c.before.before in
     let g = gate-call _ Y _ _ _ _ e in
-    rw c.before.view_of.ensures (first-seen _ Y _ _ _ _ e, second-seen _ Y _ _ _ _ e, g.shape.across.some, omega (arith, g.shape.depth.most))
+    rw c.view_of-view.ensures (first-seen _ Y _ _ _ _ e, second-seen _ Y _ _ _ _ e, g.shape.across.some, omega (arith, g.shape.depth.most))
 
-returns-2 : tie.Need-returns-2
+returns-2 : tie.Need-returns
 returns-2 c =
-    let k = c.before.before.before.before in
-    c.found-gate.ensures ∙ ap found_gate c.before.luma-finding.ensures ∙ luma-answered _ _ _ _ _ k.before.gate-refusal.ensures k.if1.false c.before.before.before.view_of.ensures
+    c.found_gate.ensures ∙ ap found_gate c.luma_finding.ensures ∙ luma-answered _ _ _ _ _ c.gate_refusal-n.ensures c.if-n-ne0.false c.view_of-view.ensures
 
-pub film-grain-probe-spec : {M : Type 1} → statement M
-film-grain-probe-spec =
+pub film_grain_probe_spec : {M : Type 1} → statement M
+film_grain_probe_spec =
     tie.close
     (tie.spec
     (λ c κs. search rules)

@@ -4,7 +4,7 @@ use Rattle.gate.proofs.found_gate.Statement.{statement}
 use Rattle.gate.proofs.found_gate.Tie as tie
 
 returns : tie.Need-returns
-returns c = rw c.is-passed.ensures
+returns c = rw c.is_passed.ensures
 
-pub found-gate-spec : {M : Type 1} → statement M
-found-gate-spec = tie.close (tie.spec (λ c κs. search rules) returns)
+pub found_gate_spec : {M : Type 1} → statement M
+found_gate_spec = tie.close (tie.spec (λ c κs. search rules) returns)

@@ -8,21 +8,19 @@ use Rattle.gate.proofs.Answers.{refused, answered}
 use Rattle.gate.proofs.lag_h_rho.Statement.{statement}
 use Rattle.gate.proofs.lag_h_rho.Tie as tie
 
-returns : tie.Need-returns
-returns c = refused _ _ _ _ _ _ _ c.before.pair-refusal.ensures c.if1.true
+returns : tie.Need-returns-then-n-ne0
+returns c = refused _ _ _ _ _ _ _ c.pair_refusal-n.ensures c.if-n-ne0.true
 
-row-correlation-requires : tie.Need-row-correlation-requires
+row-correlation-requires : tie.Need-row_correlation-requires
 row-correlation-requires c κs =
-    let k = c.before in
-    rw c.whole.ensures (pair-seen _ _ _ _ _ (sym k.before.pair-refusal.ensures ∙ k.if1.false))
+    rw c.whole-view.ensures (pair-seen _ _ _ _ _ (sym c.pair_refusal-n.ensures ∙ c.if-n-ne0.false))
 
-returns-2 : tie.Need-returns-2
+returns-2 : tie.Need-returns
 returns-2 c =
-    let k = c.before.before in
-    let A = k.before.before.before.before.args in
-    answered _ _ _ _ _ _ _ k.before.pair-refusal.ensures k.if1.false
-    (c.row-correlation.ensures ∙ ap (λ (v : View). row_correlation (seen v A.src.now A.den.now) A.lag) c.before.whole.ensures)
+    let A = c.args in
+    answered _ _ _ _ _ _ _ c.pair_refusal-n.ensures c.if-n-ne0.false
+    (c.row_correlation.ensures ∙ ap (λ (v : View). row_correlation (seen v A.src.now A.den.now) A.lag) c.whole-view.ensures)
 
-pub lag-h-rho-spec : {M : Type 1} → statement M
-lag-h-rho-spec =
+pub lag_h_rho_spec : {M : Type 1} → statement M
+lag_h_rho_spec =
     tie.close (tie.spec (λ c κs. search rules) returns (λ c κs. search rules) row-correlation-requires returns-2)

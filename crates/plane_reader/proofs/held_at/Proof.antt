@@ -35,21 +35,21 @@ within-read n z f h l = rw (to_z-of_z w32 z f) (within n z h (rw (to_z-of_z w32 
 past-read : (n : ℕ) (z : ℤ) → SFits w32 z → lt_z z (pos 0) ≡ false → n ≤ nat_abs (read z) → n - 1 ≡ held_at n z
 past-read n z f h l = past n z h (rw (to_z-of_z w32 z f) at l)
 
-returns : tie.Need-returns
-returns c = let a = c.before in before a.args.n a.args.place (tested a.args.place _ a.ranges.place c.if1.true)
+returns : tie.Need-returns-then-place-lt0
+returns c = before c.args.n c.args.place (tested c.args.place _ c.ranges.place c.if-place-lt0.true)
 
 -- past the first test
-not-before : (c : tie.Else1) → lt_z c.before.args.place (pos 0) ≡ false
-not-before c = tested c.before.args.place false c.before.ranges.place c.if1.false
+not-before : (c : tie.Else-place-lt0) → lt_z c.args.place (pos 0) ≡ false
+not-before c = tested c.args.place false c.ranges.place c.if-place-lt0.false
 
-cast-i : tie.Need-overflow-cast-i
-cast-i c = whole-read c.before.args.place c.before.ranges.place (not-before c)
+cast-i : tie.Need-overflow_cast-i
+cast-i c = whole-read c.args.place c.ranges.place (not-before c)
 
-returns-2 : tie.Need-returns-2
-returns-2 c = let a = c.before.before in within-read a.args.n a.args.place a.ranges.place (not-before c.before) c.if2.true
+returns-2 : tie.Need-returns-then-i-n
+returns-2 c = within-read c.args.n c.args.place c.ranges.place (not-before c.before) c.if-i-n.true
 
-returns-3 : tie.Need-returns-3
-returns-3 c = let a = c.before.before in past-read a.args.n a.args.place a.ranges.place (not-before c.before) c.if2.false
+returns-3 : tie.Need-returns-else-i-n
+returns-3 c = past-read c.args.n c.args.place c.ranges.place (not-before c.before) c.if-i-n.false
 
-pub held-at-spec : {M : Type 1} → statement M
-held-at-spec = tie.close (tie.spec returns cast-i (λ c. search rules) returns-2 returns-3)
+pub held_at_spec : {M : Type 1} → statement M
+held_at_spec = tie.close (tie.spec returns cast-i (λ c. search rules) returns-2 returns-3)

@@ -14,65 +14,64 @@ use Rattle.plane_reader.proofs.Answers.{refused, nothing, found, has-rows, has-c
 use Rattle.plane_reader.proofs.sample_at.Statement.{statement}
 use Rattle.plane_reader.proofs.sample_at.Tie as tie
 
-returns : tie.Need-returns
+returns : tie.Need-returns-then-n-ne0
 returns c =
-    let A = c.before.before.before.args in
-    refused A.samples.now A.rows A.cols A.row A.col c.before.plane-refusal.ensures c.if1.true
+    let A = c.args in
+    refused A.samples.now A.rows A.cols A.row A.col c.plane_refusal-n.ensures c.if-n-ne0.true
 
-returns-2 : tie.Need-returns-2
+returns-2 : tie.Need-returns-then-samples-eq0
 returns-2 c =
-    let A = c.before.before.before.before.args in
-    nothing A.samples.now A.rows A.cols A.row A.col c.before.before.plane-refusal.ensures c.before.if1.false c.if2.true
+    let A = c.args in
+    nothing A.samples.now A.rows A.cols A.row A.col c.plane_refusal-n.ensures c.if-n-ne0.false c.if-samples-eq0.true
 
 -- past the questions, in a plane that has samples
-known : (c : tie.Else2) → let A = c.before.before.before.before.args in PlaneCall A.cols A.rows (length A.samples.now) (length A.samples.now)
-known c = plane-call _ _ _ _ (sym c.before.before.plane-refusal.ensures ∙ c.before.if1.false)
+known : (c : tie.Else-samples-eq0) → let A = c.args in PlaneCall A.cols A.rows (length A.samples.now) (length A.samples.now)
+known c = plane-call _ _ _ _ (sym c.plane_refusal-n.ensures ∙ c.if-n-ne0.false)
 
-rows-known : (c : tie.Else2) → 0 < c.before.before.before.before.args.rows
-rows-known c = let A = c.before.before.before.before.args in has-rows A.rows A.cols (length A.samples.now) (known c).source c.if2.false
+rows-known : (c : tie.Else-samples-eq0) → 0 < c.args.rows
+rows-known c = let A = c.args in has-rows A.rows A.cols (length A.samples.now) (known c).source c.if-samples-eq0.false
 
-cols-known : (c : tie.Else2) → 0 < c.before.before.before.before.args.cols
-cols-known c = let A = c.before.before.before.before.args in has-cols A.rows A.cols (length A.samples.now) (known c).source c.if2.false
+cols-known : (c : tie.Else-samples-eq0) → 0 < c.args.cols
+cols-known c = let A = c.args in has-cols A.rows A.cols (length A.samples.now) (known c).source c.if-samples-eq0.false
 
-held-at-requires : tie.Need-held-at-requires
+held-at-requires : tie.Need-held_at-r-requires
 held-at-requires c κs = rows-known c
 
-held-at-requires-2 : tie.Need-held-at-requires-2
+held-at-requires-2 : tie.Need-held_at-c-requires
 held-at-requires-2 c κs = cols-known c.before
 
 -- the row and the column that are read
-row_is : (c : tie.After-held-at) → let a = c.before.before.before.before.before in c.held_at.result ≡ held_at a.args.rows a.args.row
-row_is c = let a = c.before.before.before.before.before in c.held_at.ensures ∙ ap (held_at a.args.rows) (to_z-of_z w32 a.args.row a.ranges.row)
+row_is : (c : tie.After-held_at-r) → c.held_at-r.result ≡ held_at c.args.rows c.args.row
+row_is c = c.held_at-r.ensures ∙ ap (held_at c.args.rows) (to_z-of_z w32 c.args.row c.ranges.row)
 
-col-is : (c : tie.After-held-at2) → let a = c.before.before.before.before.before.before in c.held-at2.result ≡ held_at a.args.cols a.args.col
-col-is c = let a = c.before.before.before.before.before.before in c.held-at2.ensures ∙ ap (held_at a.args.cols) (to_z-of_z w32 a.args.col a.ranges.col)
+col-is : (c : tie.After-held_at-c) → c.held_at-c.result ≡ held_at c.args.cols c.args.col
+col-is c = c.held_at-c.ensures ∙ ap (held_at c.args.cols) (to_z-of_z w32 c.args.col c.ranges.col)
 
-place : (c : tie.After-held-at2) → let A = c.before.before.before.before.before.before.args in c.before.held_at.result * A.cols + c.held-at2.result < A.cols * A.rows
+place : (c : tie.After-held_at-c) → let A = c.args in c.held_at-r.result * A.cols + c.held_at-c.result < A.cols * A.rows
 place c =
-    let A = c.before.before.before.before.before.before.args in
+    let A = c.args in
     rw (row_is c.before, col-is c) (in-plane A.rows A.cols A.row A.col (rows-known c.before.before) (cols-known c.before.before))
 
-size : (c : tie.After-held-at2) → let A = c.before.before.before.before.before.before.args in A.cols * A.rows ≤ side_limit * side_limit
+size : (c : tie.After-held_at-c) → let A = c.args in A.cols * A.rows ≤ side_limit * side_limit
 size c = area-le side_limit (known c.before.before).size.wide (known c.before.before).size.high
 
-mul-i : tie.Need-overflow-mul-i
+mul-i : tie.Need-overflow_mul-i
 mul-i c = omega (arith, place c, size c)
 
-add-i : tie.Need-overflow-add-i
+add-i : tie.Need-overflow_add-i
 add-i c = omega (arith, place c, size c)
 
-mul-t10 : tie.Need-overflow-mul-t10
+mul-t10 : tie.Need-offset_bounds-samples-i
 mul-t10 c = omega (arith, place c, size c)
 
-shared-slice-read-t14 : tie.Need-shared-slice-read-t14
+shared-slice-read-t14 : tie.Need-bounds-samples-i
 shared-slice-read-t14 c = omega (arith, place c.before, (known c.before.before.before).source)
 
-returns-3 : tie.Need-returns-3
+returns-3 : tie.Need-returns
 returns-3 c =
-    let E = c.before.before.before in
-    let A = E.before.before.before.before.args in
-    rw (row_is c.before.before, col-is c.before) (found A.samples.now A.rows A.cols A.row A.col E.before.before.plane-refusal.ensures E.before.if1.false E.if2.false)
+    let A = c.args in
+    rw (row_is c.before.before, col-is c.before) (found A.samples.now A.rows A.cols A.row A.col c.plane_refusal-n.ensures c.if-n-ne0.false c.if-samples-eq0.false)
 
-pub sample-at-spec : {M : Type 1} → statement M
-sample-at-spec =
+pub sample_at_spec : {M : Type 1} → statement M
+sample_at_spec =
     tie.close (tie.spec (λ c κs. search rules) returns returns-2 held-at-requires held-at-requires-2 mul-i add-i mul-t10 shared-slice-read-t14 returns-3)

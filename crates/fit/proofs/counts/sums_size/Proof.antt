@@ -4,8 +4,8 @@ use Rattle.normal.proofs.Sizes.{starts-few, sides-few, sums-few}
 use Rattle.fit.proofs.counts.sums_size.Statement.{statement}
 use Rattle.fit.proofs.counts.sums_size.Tie as tie
 
-pub sums-size-spec : {M : Type 1} → statement M
-sums-size-spec =
+pub sums_size_spec : {M : Type 1} → statement M
+sums_size_spec =
     tie.close
     (tie.spec
     (λ c. search rules)

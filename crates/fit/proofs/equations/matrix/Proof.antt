@@ -8,21 +8,21 @@ use Rattle.fit.specs.Sums.{cell_sum}
 use Rattle.fit.proofs.equations.matrix.Statement.{statement}
 use Rattle.fit.proofs.equations.matrix.Tie as tie
 
-abbrev invariant-loop : tie.invariant-loop
+abbrev invariant-loop : tie.invariant-loop-i
 invariant-loop sums taps squares lag p m₀ i₀ m i = Filled (row_of (cell_sum (sum_at sums lag) (at taps) squares lag) p) m₀ m i
 
-abbrev decreases-loop : tie.decreases-loop
+abbrev decreases-loop : tie.decreases-loop-i
 decreases-loop sums taps squares lag p m₀ i₀ m i = 25 - i
 
-loop-again : tie.Need-loop-preserved invariant-loop decreases-loop
-loop-again c = fill-turn _ _ _ c.before.before.loop.invariant (search rules) c.matrix-row.ensures
+loop-again : tie.Need-loop-i-preserved invariant-loop decreases-loop
+loop-again c = fill-turn _ _ _ c.loop-i.invariant (search rules) c.matrix_row.ensures
 
 returns : tie.Need-returns invariant-loop decreases-loop
 unfolding matrix_of
-returns c = fill-ends _ _ c.before.loop.invariant c.loop-test.false
+returns c = fill-ends _ _ c.loop-i.invariant c.loop-i-test.false
 
-pub matrix-spec : {M : Type 1} → statement M
-matrix-spec =
+pub matrix_spec : {M : Type 1} → statement M
+matrix_spec =
     tie.close
     (tie.spec
     invariant-loop

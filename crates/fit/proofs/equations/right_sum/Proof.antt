@@ -10,23 +10,23 @@ use Rattle.fit.proofs.Cells.{right-whole, right-quarters}
 use Rattle.fit.proofs.equations.right_sum.Statement.{statement}
 use Rattle.fit.proofs.equations.right_sum.Tie as tie
 
-returns : tie.Need-returns
+returns : tie.Need-returns-then-i-n
 returns c =
-    let a = c.before.before.before.before.args in
+    let a = c.args in
     right-whole _ _ _ _ _ (omega arith)
-    (c.nearest-i64-to-f64.ensures
-    ∙ ap (of_int binary64) (to_z-of_z w64 _ (record { sfits = c.before.neighbour-sum.type-inv }) ∙ c.before.neighbour-sum.ensures ∙ ap (sum_at a.sums.now a.lag a.i) c.before.before.before.neighbour-count.ensures))
+    (c.nearest_i64_to_f64.ensures
+    ∙ ap (of_int binary64) (to_z-of_z w64 _ (record { sfits = c.neighbour_sum-whole.type_inv }) ∙ c.neighbour_sum-whole.ensures ∙ ap (sum_at a.sums.now a.lag a.i) c.neighbour_count-n.ensures))
 
-returns-2 : tie.Need-returns-2
+returns-2 : tie.Need-returns
 returns-2 c =
-    let a = c.before.before.before.before.args in
+    let a = c.args in
     right-quarters _ _ _ _ _ (omega arith)
     (rw four-bits
     (ap (λ (x : Float). div binary64 x four)
-    (c.nearest-i64-to-f642.ensures ∙ ap (of_int binary64) (to_z-of_z w64 _ (record { sfits = c.before.quarters.given }) ∙ ap (at a.taps.now) c.before.before.before.neighbour-count.ensures))))
+    (c.nearest_i64_to_f64-2.ensures ∙ ap (of_int binary64) (to_z-of_z w64 _ (record { sfits = c.quarters-1.given }) ∙ ap (at a.taps.now) c.neighbour_count-n.ensures))))
 
-pub right-sum-spec : {M : Type 1} → statement M
-right-sum-spec =
+pub right_sum_spec : {M : Type 1} → statement M
+right_sum_spec =
     tie.close
     (tie.spec
     (λ c κs. search rules)

@@ -5,27 +5,27 @@ use Rattle.fit.proofs.ChromaSteps.{component-fit, taps-size}
 use Rattle.fit.proofs.planes.chroma_coefficients.Statement.{statement}
 use Rattle.fit.proofs.planes.chroma_coefficients.Tie as tie
 
-component-requires : tie.Need-component-requires
+component-requires : tie.Need-component-blue-requires
 component-requires c κs =
-    let k = c.before.before.before.before.before.before.before.before.before.before.before.before.before.before.before.requires in
-    record { visible = k.visible.cb; few = k.few; wide = k.wide; high = k.high; tapped = taps-size _ _ _ c.before.before.before.before.before.before.tap-sums.ensures.cb-are; summed = search rules }
+    let k = c.requires in
+    record { visible = k.visible.cb; few = k.few; wide = k.wide; high = k.high; tapped = taps-size _ _ _ c.tap_sums-sixteenths.ensures.cb-are; summed = search rules }
 
-component-requires-2 : tie.Need-component-requires-2
+component-requires-2 : tie.Need-component-red-requires
 component-requires-2 c κs =
-    let k = c.before.before.before.before.before.before.before.before.before.before.before.before.before.before.before.before.before.before.before.requires in
-    record { visible = k.visible.cr; few = k.few; wide = k.wide; high = k.high; tapped = taps-size _ _ _ c.before.before.before.before.before.before.before.before.before.before.tap-sums.ensures.cr-are; summed = search rules }
+    let k = c.requires in
+    record { visible = k.visible.cr; few = k.few; wide = k.wide; high = k.high; tapped = taps-size _ _ _ c.tap_sums-sixteenths.ensures.cr-are; summed = search rules }
 
 returns : tie.Need-returns
 returns c =
-    let k = c.before.before.before.before.before.before.before.before.before.before.before.before.before.before.before.before.before.before.before.before.before.requires in
-    let t = c.before.before.before.before.before.before.before.before.before.before.before.before.tap-sums.ensures in
-    let x = c.before.before.before.before.before.before.before.before.before.nearest-i64-to-f64.ensures in (
-      component-fit k.visible.over k.visible.luma k.visible.cb k.few k.wide k.high _ _ t.squares-are _ x _ t.cb-are _ (rw (← sixteen-bits) c.before.before.before.before.before.component.ensures),
-      component-fit k.visible.over k.visible.luma k.visible.cr k.few k.wide k.high _ _ t.squares-are _ x _ t.cr-are _ (rw (← sixteen-bits) c.before.component2.ensures),
+    let k = c.requires in
+    let t = c.tap_sums-sixteenths.ensures in
+    let x = c.nearest_i64_to_f64-squares.ensures in (
+      component-fit k.visible.over k.visible.luma k.visible.cb k.few k.wide k.high _ _ t.squares-are _ x _ t.cb-are _ (rw (← sixteen-bits) c.component-blue.ensures),
+      component-fit k.visible.over k.visible.luma k.visible.cr k.few k.wide k.high _ _ t.squares-are _ x _ t.cr-are _ (rw (← sixteen-bits) c.component-red.ensures),
     )
 
-pub chroma-coefficients-spec : {M : Type 1} → statement M
-chroma-coefficients-spec =
+pub chroma_coefficients_spec : {M : Type 1} → statement M
+chroma_coefficients_spec =
     tie.close
     (tie.spec
     (λ c κs. search rules)

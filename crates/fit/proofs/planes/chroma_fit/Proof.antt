@@ -6,34 +6,34 @@ use Rattle.fit.proofs.ChromaSteps.{narrow, short}
 use Rattle.fit.proofs.planes.chroma_fit.Statement.{statement}
 use Rattle.fit.proofs.planes.chroma_fit.Tie as tie
 
-returns : tie.Need-returns
-returns c = (narrow _ _ _ _ c.if1.true, narrow _ _ _ _ c.if1.true)
+returns : tie.Need-returns-then-view-lag
+returns c = (narrow _ _ _ _ c.if-view-lag.true, narrow _ _ _ _ c.if-view-lag.true)
 
-returns-2 : tie.Need-returns-2
-returns-2 c = (short _ _ _ _ c.if2.true, short _ _ _ _ c.if2.true)
+returns-2 : tie.Need-returns-then-view-lag-2
+returns-2 c = (short _ _ _ _ c.if-view-lag-2.true, short _ _ _ _ c.if-view-lag-2.true)
 
-array-borrow-prefix-cbtaps : tie.Need-array-borrow-prefix-cbtaps
-array-borrow-prefix-cbtaps c = omega (arith, factors-few c.before.before.before.before.before.before.before.before.before.before.before.before.before.before.before.before.requires.1, c.before.neighbour-count.ensures)
+array-borrow-prefix-cbtaps : tie.Need-slice_bounds-cbtaps-end
+array-borrow-prefix-cbtaps c = omega (arith, factors-few c.requires.1, c.neighbour_count-q.ensures)
 
-slice-aggregate-chroma-coefficients : tie.Need-slice-aggregate-chroma-coefficients
-slice-aggregate-chroma-coefficients c = sym (length-take-le _ c.before.before.before.before.before.blank-taps.result (array-borrow-prefix-cbtaps c.before))
+slice-aggregate-chroma-coefficients : tie.Need-slice_bounds-chroma_coefficients-end
+slice-aggregate-chroma-coefficients c = sym (length-take-le _ c.blank_taps-cbtaps.result (array-borrow-prefix-cbtaps c.before))
 
-array-borrow-prefix-crtaps : tie.Need-array-borrow-prefix-crtaps
-array-borrow-prefix-crtaps c = omega (arith, factors-few c.before.before.before.before.before.before.before.before.before.before.before.before.before.before.before.before.before.requires.1, c.before.before.neighbour-count.ensures)
+array-borrow-prefix-crtaps : tie.Need-slice_bounds-crtaps-end
+array-borrow-prefix-crtaps c = omega (arith, factors-few c.requires.1, c.neighbour_count-q.ensures)
 
-slice-aggregate-chroma-coefficients-2 : tie.Need-slice-aggregate-chroma-coefficients-2
-slice-aggregate-chroma-coefficients-2 c = sym (length-take-le _ c.before.before.before.before.before.blank-taps2.result (array-borrow-prefix-crtaps c.before))
+slice-aggregate-chroma-coefficients-2 : tie.Need-slice_bounds-chroma_coefficients-end-2
+slice-aggregate-chroma-coefficients-2 c = sym (length-take-le _ c.blank_taps-crtaps.result (array-borrow-prefix-crtaps c.before))
 
-array-borrow-prefix-sums : tie.Need-array-borrow-prefix-sums
-array-borrow-prefix-sums c = omega (arith, sums-few c.before.before.before.before.before.before.before.before.before.before.before.before.before.before.before.before.before.before.requires.1, c.before.before.sums-size.ensures)
+array-borrow-prefix-sums : tie.Need-slice_bounds-sums-end
+array-borrow-prefix-sums c = omega (arith, sums-few c.requires.1, c.sums_size-size.ensures)
 
-slice-aggregate-chroma-coefficients-3 : tie.Need-slice-aggregate-chroma-coefficients-3
-slice-aggregate-chroma-coefficients-3 c = sym (length-take-le _ c.before.before.before.before.before.blank-sums.result (array-borrow-prefix-sums c.before))
+slice-aggregate-chroma-coefficients-3 : tie.Need-slice_bounds-chroma_coefficients-end-3
+slice-aggregate-chroma-coefficients-3 c = sym (length-take-le _ c.blank_sums-sums.result (array-borrow-prefix-sums c.before))
 
-chroma-coefficients-requires : tie.Need-chroma-coefficients-requires
+chroma-coefficients-requires : tie.Need-chroma_coefficients-requires
 chroma-coefficients-requires c κs =
-    let k = c.before.before.before.before.before.before.before.before.before.before.before.before.before.before.before.before.before.before.before.requires in
-    let n = c.before.before.before.before.neighbour-count.ensures in
+    let k = c.requires in
+    let n = c.neighbour_count-q.ensures in
     record {
       visible = k.0;
       few = k.1;
@@ -41,11 +41,11 @@ chroma-coefficients-requires c κs =
       high = search rules;
       tapped-cb = sym (slice-aggregate-chroma-coefficients c.before.before) ∙ omega (arith, n);
       tapped-cr = sym (slice-aggregate-chroma-coefficients-2 c.before) ∙ omega (arith, n);
-      summed = sym (slice-aggregate-chroma-coefficients-3 c) ∙ c.before.before.before.sums-size.ensures;
+      summed = sym (slice-aggregate-chroma-coefficients-3 c) ∙ c.sums_size-size.ensures;
     }
 
-pub chroma-fit-spec : {M : Type 1} → statement M
-chroma-fit-spec =
+pub chroma_fit_spec : {M : Type 1} → statement M
+chroma_fit_spec =
     tie.close
     (tie.spec
     (λ c. search rules)

@@ -5,10 +5,10 @@ use Rattle.fit.proofs.planes.component.Statement.{statement}
 use Rattle.fit.proofs.planes.component.Tie as tie
 
 returns : tie.Need-returns
-returns c = exact-all _ _ _ _ _ _ _ (omega (arith, c.before.neighbour-count.ensures)) c.before.before.before.before.neighbour-sums.ensures.entries _ c.coefficients.ensures
+returns c = exact-all _ _ _ _ _ _ _ (omega (arith, c.neighbour_count.ensures)) c.neighbour_sums.ensures.entries _ c.coefficients.ensures
 
-pub component-spec : {M : Type 1} → statement M
-component-spec =
+pub component_spec : {M : Type 1} → statement M
+component_spec =
     tie.close
     (tie.spec
     (λ c κs. search rules)

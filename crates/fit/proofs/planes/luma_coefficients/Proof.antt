@@ -8,26 +8,24 @@ use Rattle.fit.proofs.planes.luma_coefficients.Statement.{statement}
 use Rattle.fit.proofs.planes.luma_coefficients.Tie as tie
 
 -- the energy, read from the sums
-energy-is : (c : tie.After-nearest-i64-to-f64) → (let a = c.before.before.before.before.before.before.before.before.before.args in c.nearest-i64-to-f64.result ≡ energy_f (seen a.view a.src.now a.den.now) a.lag)
+energy-is : (c : tie.After-nearest_i64_to_f64) → (let a = c.args in c.nearest_i64_to_f64.result ≡ energy_f (seen a.view a.src.now a.den.now) a.lag)
 energy-is c =
-    let s = c.before.before.before.before.before in
-    let r = c.before.neighbour-sum in
-    energy-read _ _ (seen-samples s.before.before.before.before.requires.plane.visible) _ s.neighbour-sums.ensures _ c.before.before.before.neighbour-count.ensures _ (record { sfits = r.type-inv }) r.ensures _ c.nearest-i64-to-f64.ensures
+    let r = c.neighbour_sum-energy in
+    energy-read _ _ (seen-samples c.requires.plane.visible) _ c.neighbour_sums.ensures _ c.neighbour_count-n.ensures _ (record { sfits = r.type-inv }) r.ensures _ c.nearest_i64_to_f64.ensures
 
-returns : tie.Need-returns
+returns : tie.Need-returns-then-nearest_i64_to_f64
 returns c =
-    let k = c.before.before.before.before.before.before.before.before.before.before.requires in
-    flat _ _ _ (λ z. omega (arith, k.some)) k.plane.wide k.plane.high _ (energy-is c.before) c.if1.true
+    let k = c.requires in
+    flat _ _ _ (λ z. omega (arith, k.some)) k.plane.wide k.plane.high _ (energy-is c.before) c.if-nearest_i64_to_f64.true
 
-returns-2 : tie.Need-returns-2
+returns-2 : tie.Need-returns
 returns-2 c =
-    let s = c.before.before.before.before.before.before.before.before in
-    let k = s.before.before.before.before.requires in
-    solved _ _ _ (λ z. omega (arith, k.some)) k.plane.wide k.plane.high _ (energy-is c.before.before.before) c.before.before.if1.false
-    (seen-samples k.plane.visible) _ s.neighbour-sums.ensures.entries _ _ _ c.before.before.before.before.before.before.neighbour-count.ensures _ c.coefficients.ensures
+    let k = c.requires in
+    solved _ _ _ (λ z. omega (arith, k.some)) k.plane.wide k.plane.high _ (energy-is c.before.before) c.if-nearest_i64_to_f64.false
+    (seen-samples k.plane.visible) _ c.neighbour_sums.ensures.entries _ _ _ c.neighbour_count-n.ensures _ c.coefficients.ensures
 
-pub luma-coefficients-spec : {M : Type 1} → statement M
-luma-coefficients-spec =
+pub luma_coefficients_spec : {M : Type 1} → statement M
+luma_coefficients_spec =
     tie.close
     (tie.spec
     (λ c κs. search rules)

@@ -6,44 +6,44 @@ use Rattle.fit.proofs.LumaSteps.{lag-zero, narrow, short}
 use Rattle.fit.proofs.planes.luma_fit.Statement.{statement}
 use Rattle.fit.proofs.planes.luma_fit.Tie as tie
 
-returns : tie.Need-returns
-returns c = lag-zero _ _ _ c.if1.true
+returns : tie.Need-returns-then-lag-eq0
+returns c = lag-zero _ _ _ c.if-lag-eq0.true
 
-returns-2 : tie.Need-returns-2
-returns-2 c = narrow _ _ _ c.before.before.if1.false c.if2.true
+returns-2 : tie.Need-returns-then-view-lag
+returns-2 c = narrow _ _ _ c.if-lag-eq0.false c.if-view-lag.true
 
-returns-3 : tie.Need-returns-3
-returns-3 c = short _ _ _ c.before.before.before.before.if1.false c.before.before.if2.false c.if3.true
+returns-3 : tie.Need-returns-then-view-lag-2
+returns-3 c = short _ _ _ c.if-lag-eq0.false c.if-view-lag.false c.if-view-lag-2.true
 
-array-share-prefix-taps : tie.Need-array-share-prefix-taps
-array-share-prefix-taps c = omega (arith, factors-few c.before.before.before.before.before.before.before.before.before.before.before.requires.1, c.before.neighbour-count.ensures)
+array-share-prefix-taps : tie.Need-slice_bounds-taps-end
+array-share-prefix-taps c = omega (arith, factors-few c.requires.1, c.neighbour_count-q.ensures)
 
-slice-aggregate-luma-coefficients : tie.Need-slice-aggregate-luma-coefficients
-slice-aggregate-luma-coefficients c = sym (length-take-le _ c.before.before.before.blank-taps.result (array-share-prefix-taps c.before))
+slice-aggregate-luma-coefficients : tie.Need-slice_bounds-luma_coefficients-end
+slice-aggregate-luma-coefficients c = sym (length-take-le _ c.blank_taps-taps.result (array-share-prefix-taps c.before))
 
-array-borrow-prefix-sums : tie.Need-array-borrow-prefix-sums
-array-borrow-prefix-sums c = omega (arith, sums-few c.before.before.before.before.before.before.before.before.before.before.before.before.requires.1, c.before.sums-size.ensures)
+array-borrow-prefix-sums : tie.Need-slice_bounds-sums-end
+array-borrow-prefix-sums c = omega (arith, sums-few c.requires.1, c.sums_size-size.ensures)
 
-slice-aggregate-luma-coefficients-2 : tie.Need-slice-aggregate-luma-coefficients-2
-slice-aggregate-luma-coefficients-2 c = sym (length-take-le _ c.before.before.before.before.before.blank-sums.result (array-borrow-prefix-sums c.before))
+slice-aggregate-luma-coefficients-2 : tie.Need-slice_bounds-luma_coefficients-end-2
+slice-aggregate-luma-coefficients-2 c = sym (length-take-le _ c.blank_sums-sums.result (array-borrow-prefix-sums c.before))
 
-luma-coefficients-requires : tie.Need-luma-coefficients-requires
+luma-coefficients-requires : tie.Need-luma_coefficients-requires
 luma-coefficients-requires c κs =
-    let k = c.before.before.before.before.before.before.before.before.before.before.before.before.before.requires in
+    let k = c.requires in
     record {
       plane = record {
         visible = k.0;
         few = k.1;
         wide = search rules;
         high = search rules;
-        tapped = sym (slice-aggregate-luma-coefficients c.before) ∙ omega (arith, c.before.before.before.neighbour-count.ensures);
-        summed = sym (slice-aggregate-luma-coefficients-2 c) ∙ c.before.before.sums-size.ensures;
+        tapped = sym (slice-aggregate-luma-coefficients c.before) ∙ omega (arith, c.neighbour_count-q.ensures);
+        summed = sym (slice-aggregate-luma-coefficients-2 c) ∙ c.sums_size-size.ensures;
       };
       some = search rules;
     }
 
-pub luma-fit-spec : {M : Type 1} → statement M
-luma-fit-spec =
+pub luma_fit_spec : {M : Type 1} → statement M
+luma_fit_spec =
     tie.close
     (tie.spec
     returns

@@ -9,8 +9,8 @@ use Rattle.gate.proofs.finding.chroma_finding.Statement.{statement}
 use Rattle.gate.proofs.finding.chroma_finding.Tie as tie
 
 -- a plane that has a sample, and so a column
-filled : (c : tie.Else2) → let v = c.before.before.before.before.before.before.before.args.view in v.width * v.height ≡ 0 → ⊥
-filled c z = c.if2.false (c.before.samples.ensures ∙ z)
+filled : (c : tie.Else-samples-eq0) → let v = c.args.view in v.width * v.height ≡ 0 → ⊥
+filled c z = c.if-samples-eq0.false (c.samples.ensures ∙ z)
 
 column : (w h : ℕ) → (w * h ≡ 0 → ⊥) → 1 ≤ w
 column zero h f = absurd (f (zero-mul h))
@@ -20,38 +20,35 @@ column (suc w) h f = suc-le-suc zero-le
 row : (m r x : Float) → m ≡ magnitude_of r → r ≡ x → m ≡ magnitude_of x
 row m r x e h = e ∙ ap magnitude_of h
 
-returns : tie.Need-returns
-returns c = chroma-low _ _ _ c.if1.true
+returns : tie.Need-returns-then-sigma16-lt8
+returns c = chroma-low _ _ _ c.if-sigma16-lt8.true
 
 samples-requires : tie.Need-samples-requires
-samples-requires c κs = let S = c.before.before.before.before.before in (S.requires.0.narrow, S.requires.0.low)
+samples-requires c κs = (c.requires.0.narrow, c.requires.0.low)
 
-returns-2 : tie.Need-returns-2
-returns-2 c = chroma-empty _ _ _ c.before.before.if1.false (sym c.before.samples.ensures ∙ c.if2.true)
+returns-2 : tie.Need-returns-then-samples-eq0
+returns-2 c = chroma-empty _ _ _ c.if-sigma16-lt8.false (sym c.samples.ensures ∙ c.if-samples-eq0.true)
 
-of-plane-requires : tie.Need-of-plane-requires
-of-plane-requires c κs = (c.before.before.before.before.before.before.before.requires.0, column _ _ (filled c), search rules)
+of-plane-requires : tie.Need-of_plane-sums-requires
+of-plane-requires c κs = (c.requires.0, column _ _ (filled c), search rules)
 
-returns-3 : tie.Need-returns-3
+returns-3 : tie.Need-returns-then-magnitude
 returns-3 c =
-    let E = c.before.before.before.before in
-    let s = c.before.before.before.of-plane.ensures in
-    chroma-row _ _ _ E.before.before.if1.false (filled E) _ (row _ _ _ c.before.magnitude.ensures (row_is _ 1 s.energy s.lagged c.before.before.correlation-of.ensures)) (rw (← three-quarters-bits) c.if3.true)
+    let s = c.of_plane-sums.ensures in
+    chroma-row _ _ _ c.if-sigma16-lt8.false (filled c.before.before.before.before) _ (row _ _ _ c.magnitude.ensures (row_is _ 1 s.energy s.lagged c.correlation_of.ensures)) (rw (← three-quarters-bits) c.if-magnitude.true)
 
-returns-4 : tie.Need-returns-4
+returns-4 : tie.Need-returns-then-e0
 returns-4 c =
-    let E = c.before.before.before.before.before in
-    let s = c.before.before.before.before.of-plane.ensures in
-    chroma-first _ _ _ E.before.before.if1.false (filled E) _ (row _ _ _ c.before.before.magnitude.ensures (row_is _ 1 s.energy s.lagged c.before.before.before.correlation-of.ensures)) (rw (← three-quarters-bits) c.before.if3.false) _ s.energy c.if4.true
+    let s = c.of_plane-sums.ensures in
+    chroma-first _ _ _ c.if-sigma16-lt8.false (filled c.before.before.before.before.before) _ (row _ _ _ c.magnitude.ensures (row_is _ 1 s.energy s.lagged c.correlation_of.ensures)) (rw (← three-quarters-bits) c.if-magnitude.false) _ s.energy c.if-e0.true
 
-returns-5 : tie.Need-returns-5
+returns-5 : tie.Need-returns
 returns-5 c =
-    let E = c.before.before.before.before.before.before in
-    let s = c.before.before.before.before.before.of-plane.ensures in
-    chroma-last _ _ _ E.before.before.if1.false (filled E) _ (row _ _ _ c.before.before.before.magnitude.ensures (row_is _ 1 s.energy s.lagged c.before.before.before.before.correlation-of.ensures)) (rw (← three-quarters-bits) c.before.before.if3.false) _ s.energy _ c.before.if4.false c.second-finding.ensures
+    let s = c.of_plane-sums.ensures in
+    chroma-last _ _ _ c.if-sigma16-lt8.false (filled c.before.before.before.before.before.before) _ (row _ _ _ c.magnitude.ensures (row_is _ 1 s.energy s.lagged c.correlation_of.ensures)) (rw (← three-quarters-bits) c.if-magnitude.false) _ s.energy _ c.if-e0.false c.second_finding.ensures
 
-pub chroma-finding-spec : {M : Type 1} → statement M
-chroma-finding-spec =
+pub chroma_finding_spec : {M : Type 1} → statement M
+chroma_finding_spec =
     tie.close
     (tie.spec
     returns

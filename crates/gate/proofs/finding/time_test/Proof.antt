@@ -7,7 +7,7 @@ use Rattle.gate.proofs.finding.time_test.Tie as tie
 
 returns : tie.Need-returns
 unfolding time_test
-returns c = rw (c.magnitude.ensures, c.before.sqrt.ensures, two-fifths-bits)
+returns c = rw (c.magnitude.ensures, c.sqrt.ensures, two-fifths-bits)
 
-pub time-test-spec : {M : Type 1} → statement M
-time-test-spec = tie.close (tie.spec (λ c κs. search rules) (λ c κs. search rules) returns)
+pub time_test_spec : {M : Type 1} → statement M
+time_test_spec = tie.close (tie.spec (λ c κs. search rules) (λ c κs. search rules) returns)

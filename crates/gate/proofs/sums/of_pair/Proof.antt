@@ -7,15 +7,14 @@ use Rattle.gate.proofs.sums.of_pair.Tie as tie
 
 returns : tie.Need-returns
 returns c =
-    let S = c.before.before.before.before.before.before.before.before.before in
-    let r = c.before.before.before.before.pair-sums.ensures in
+    let r = c.pair_sums-sums.ensures in
     record {
-      second = c.before.before.nearest-i64-to-f64.ensures ∙ dot-is S.requires.1 S.requires.1 ((again (self (record { sfits = search rules }))).eq ∙ r.second);
-      cross = c.nearest-i64-to-f642.ensures ∙ dot-is S.requires.0 S.requires.1 ((again (self (record { sfits = search rules }))).eq ∙ r.cross);
+      second = c.nearest_i64_to_f64-second.ensures ∙ dot-is c.requires.1 c.requires.1 ((again (self (record { sfits = search rules }))).eq ∙ r.second);
+      cross = c.nearest_i64_to_f64-cross.ensures ∙ dot-is c.requires.0 c.requires.1 ((again (self (record { sfits = search rules }))).eq ∙ r.cross);
     }
 
-pub of-pair-spec : {M : Type 1} → statement M
-of-pair-spec =
+pub of_pair_spec : {M : Type 1} → statement M
+of_pair_spec =
     tie.close
     (tie.spec
     (λ c κs. search rules)

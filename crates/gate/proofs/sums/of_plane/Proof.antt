@@ -9,7 +9,7 @@ use Rattle.gate.proofs.sums.of_plane.Statement.{statement}
 use Rattle.gate.proofs.sums.of_plane.Tie as tie
 
 -- the squares, exactly and as they are read back
-module _ (c : tie.After-struct-told3) where
+module _ (c : tie.After-struct_told-3-1) where
   squares : let A = c.before.before.before.before.before.before.before.before.before.args in
       c.before.before.before.before.before.before.plane-sums.result.squares ≡ pos (plane_squares A.shift (viewed A.view A.src.now) (viewed A.view A.den.now))
   squares =
@@ -22,16 +22,15 @@ module _ (c : tie.After-struct-told3) where
 
 returns : tie.Need-returns
 returns c =
-    let S = c.before.before.before.before.before.before.before.before.before in
-    let r = c.before.before.before.before.before.before.plane-sums.ensures in
+    let r = c.plane_sums-sums.ensures in
     record {
       squares = ap nat_abs (read c);
-      energy = c.before.before.before.before.nearest-i64-to-f64.ensures ∙ dot-is S.requires.0 S.requires.0 ((again (self (record { sfits = search rules }))).eq ∙ r.energy);
-      lagged = c.before.before.nearest-i64-to-f642.ensures ∙ lagged-is S.requires.0 S.args.lag ((again (self (record { sfits = search rules }))).eq ∙ r.lagged);
+      energy = c.nearest_i64_to_f64-energy.ensures ∙ dot-is c.requires.0 c.requires.0 ((again (self (record { sfits = search rules }))).eq ∙ r.energy);
+      lagged = c.nearest_i64_to_f64-lagged.ensures ∙ lagged-is c.requires.0 c.args.lag ((again (self (record { sfits = search rules }))).eq ∙ r.lagged);
     }
 
-pub of-plane-spec : {M : Type 1} → statement M
-of-plane-spec =
+pub of_plane_spec : {M : Type 1} → statement M
+of_plane_spec =
     tie.close
     (tie.spec
     (λ c κs. search rules)

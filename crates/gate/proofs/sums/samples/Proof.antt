@@ -4,8 +4,8 @@ use Rattle.frame.proofs.Size.{area-fits}
 use Rattle.gate.proofs.sums.samples.Statement.{statement}
 use Rattle.gate.proofs.sums.samples.Tie as tie
 
-mul-result : tie.Need-overflow-mul-result
-mul-result c = area-fits c.before.requires.0 c.before.requires.1
+mul-result : tie.Need-overflow_mul-result
+mul-result c = area-fits c.requires.0 c.requires.1
 
-pub samples-spec : {M : Type 1} → statement M
-samples-spec = tie.close (tie.spec mul-result (λ c. search rules))
+pub samples_spec : {M : Type 1} → statement M
+samples_spec = tie.close (tie.spec mul-result (λ c. search rules))
