@@ -8,7 +8,7 @@ use Rattle.laws.specs.Scaled.{plus_zero, minus_zero}
 use Rattle.laws.proofs.ZeroSign.{ButZeroSign, round-minus, round-plus, loop-sign, at-most-same, above_same}
 use Rattle.float.specs.Magnitude.{magnitude_of}
 use Rattle.float.specs.Root.{root}
-use Rattle.noise.specs.Noise.{Pair}
+use Rattle.noise.specs.Noise.{Pair, noise_f}
 use Rattle.noise.specs.Steps.{dot_from, dot_f}
 use Rattle.gate.specs.RowCorrelation.{row_correlation}
 use Rattle.gate.specs.Tests.{time_test, luma_row, temporal_by, second_by, luma_by, luma_finding, chroma_by, chroma_finding}
@@ -17,7 +17,7 @@ use Rattle.gate.specs.declared.finding.Finding.TheVariants.{LowSigma, EmptyPlane
 
 dot-sign : (p q : Pair) → ButZeroSign (dot_from minus_zero p q) (dot_f p q)
 unfolding dot_f
-dot-sign p q = loop-sign _ (p.width * p.height)
+dot-sign p q = loop-sign (λ i. mul binary64 (noise_f p.source p.denoised i) (noise_f q.source q.denoised i)) (p.width * p.height)
 
 -- either zero over a number
 none : (s : Bool) (c : ℕ) → 0 < c → magnitude_of (round binary64 s 0 c) ≡ plus_zero

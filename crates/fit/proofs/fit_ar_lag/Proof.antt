@@ -16,13 +16,6 @@ granted c = fit-seen _ _ _ _ _ _ _ _ (sym c.fit_refusal-refused.ensures ∙ c.if
 geometry-of-requires : tie.Need-geometry_of-geometry-requires
 geometry-of-requires c κs = fit-inside _ _ _ _ _ _ _ _ (sym c.fit_refusal-refused.ensures ∙ c.if-refused-ne0.false)
 
--- luma's list of both, apart
-abbrev parted : tie.After-all_zero → tie.After-apart
-parted c = c.before.before.before
-
-abbrev solved : tie.After-all_zero → tie.After-luma_fit
-solved c = (parted c).before.before.before
-
 returns : tie.Need-returns-then-refused-ne0
 returns c = c.unfitted.ensures ∙ refused _ _ _ _ _ _ _ _ _ c.fit_refusal-refused.ensures c.if-refused-ne0.true
 
@@ -35,22 +28,17 @@ all-zero-requires c κs =
 
 returns-2 : tie.Need-returns-then-all_zero
 returns-2 c =
-    let l = solved c.before.before in
-    let k = l.before.before.before in
     c.unfitted-then-all_zero.ensures
-    ∙ none _ _ _ _ _ _ _ _ _ k.before.fit-refusal.ensures k.if1.left _ l.before.before.geometry-of.ensures _ l.before.neighbour-count.ensures _ l.luma-fit.ensures _ _ (parted c.before.before).apart.ensures _ c.all_zero.ensures c.if-all_zero.true
+    ∙ none _ _ _ _ _ _ _ _ _ c.fit_refusal-refused.ensures c.if-refused-ne0.false _ c.geometry_of-geometry.ensures _ c.neighbour_count-count.ensures _ c.luma_fit.ensures _ _ c.apart.ensures _ c.all_zero.ensures c.if-all_zero.true
 
 chroma-fit-requires : tie.Need-chroma_fit-chroma-requires
 chroma-fit-requires c κs =
-    let l = solved c.before in
-    let g = granted l.before.before.before in
-    (rw l.before.before.geometry-of.ensures g.0, g.1)
+    let g = granted c.before.before.before.before.before.before.before.before.before.before.before in
+    (rw c.geometry_of-geometry.ensures g.0, g.1)
 
 returns-3 : tie.Need-returns
 returns-3 c =
-    let l = solved c.before.before.before.before.before.before.before.before.before.before.before.before.before.before in
-    let k = l.before.before.before in
-    some _ _ _ _ _ _ _ _ _ k.before.fit-refusal.ensures k.if1.left _ l.before.before.geometry-of.ensures _ l.before.neighbour-count.ensures _ l.luma-fit.ensures _ _ (parted c.before.before.before.before.before.before.before.before.before.before.before.before.before.before).apart.ensures _ c.all_zero.ensures c.if-all_zero.false
+    some _ _ _ _ _ _ _ _ _ c.fit_refusal-refused.ensures c.if-refused-ne0.false _ c.geometry_of-geometry.ensures _ c.neighbour_count-count.ensures _ c.luma_fit.ensures _ _ c.apart.ensures _ c.all_zero.ensures c.if-all_zero.false
     _ _ c.chroma_fit-chroma.ensures.0 c.chroma_fit-chroma.ensures.1 _ _ c.apart-2.ensures _ _ c.apart-3.ensures
 
 pub fit_ar_lag_spec : {M : Type 1} → statement M

@@ -11,7 +11,7 @@ use Rattle.fit.proofs.planes.luma_coefficients.Tie as tie
 energy-is : (c : tie.After-nearest_i64_to_f64) → (let a = c.args in c.nearest_i64_to_f64.result ≡ energy_f (seen a.view a.src.now a.den.now) a.lag)
 energy-is c =
     let r = c.neighbour_sum-energy in
-    energy-read _ _ (seen-samples c.requires.plane.visible) _ c.neighbour_sums.ensures _ c.neighbour_count-n.ensures _ (record { sfits = r.type-inv }) r.ensures _ c.nearest_i64_to_f64.ensures
+    energy-read _ _ (seen-samples c.requires.plane.visible) _ c.neighbour_sums.ensures _ c.neighbour_count-n.ensures _ (record { sfits = r.type_inv }) r.ensures _ c.nearest_i64_to_f64.ensures
 
 returns : tie.Need-returns-then-nearest_i64_to_f64
 returns c =

@@ -10,23 +10,23 @@ use Rattle.gate.proofs.sums.of_plane.Tie as tie
 
 -- the squares, exactly and as they are read back
 module _ (c : tie.After-struct_told-3-1) where
-  squares : let A = c.before.before.before.before.before.before.before.before.before.args in
-      c.before.before.before.before.before.before.plane-sums.result.squares ≡ pos (plane_squares A.shift (viewed A.view A.src.now) (viewed A.view A.den.now))
+  squares : let A = c.args in
+      c.plane_sums-sums.result.squares ≡ pos (plane_squares A.shift (viewed A.view A.src.now) (viewed A.view A.den.now))
   squares =
-      let A = c.before.before.before.before.before.before.before.before.before.args in
-      squares-are A.view A.src.now A.den.now A.shift c.before.before.before.before.before.before.plane-sums.ensures.squares
+      let A = c.args in
+      squares-are A.view A.src.now A.den.now A.shift c.plane_sums-sums.ensures.squares
 
-  read : let A = c.before.before.before.before.before.before.before.before.before.args in
-      to_z w64 (of_z w64 c.before.before.before.before.before.before.plane-sums.result.squares) ≡ pos (plane_squares A.shift (viewed A.view A.src.now) (viewed A.view A.den.now))
-  read = (again (self (record { sfits = search rules }))).eq ∙ squares
+  read : let A = c.args in
+      to_z w64 (of_z w64 c.plane_sums-sums.result.squares) ≡ pos (plane_squares A.shift (viewed A.view A.src.now) (viewed A.view A.den.now))
+  read = (again {w = w64} (self (record { sfits = search rules }))).eq ∙ squares
 
 returns : tie.Need-returns
 returns c =
     let r = c.plane_sums-sums.ensures in
     record {
       squares = ap nat_abs (read c);
-      energy = c.nearest_i64_to_f64-energy.ensures ∙ dot-is c.requires.0 c.requires.0 ((again (self (record { sfits = search rules }))).eq ∙ r.energy);
-      lagged = c.nearest_i64_to_f64-lagged.ensures ∙ lagged-is c.requires.0 c.args.lag ((again (self (record { sfits = search rules }))).eq ∙ r.lagged);
+      energy = c.nearest_i64_to_f64-energy.ensures ∙ dot-is c.requires.0 c.requires.0 ((again {w = w64} (self (record { sfits = search rules }))).eq ∙ r.energy);
+      lagged = c.nearest_i64_to_f64-lagged.ensures ∙ lagged-is c.requires.0 c.args.lag ((again {w = w64} (self (record { sfits = search rules }))).eq ∙ r.lagged);
     }
 
 pub of_plane_spec : {M : Type 1} → statement M
