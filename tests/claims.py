@@ -5,12 +5,13 @@ A citation stands in backquotes: `CRATE/FILE` or `CRATE/FILE:NAME`, where FILE i
 with src/, specs/, proofs/ or must-fail/, and NAME is declared in that file. A citation that begins with docs/, tests/,
 oracle/, host/ or include/ is a path of the repository, with or without a NAME that its text contains.
 Every function that a crate shows to other crates must be cited by name: each `pub fn` of its lib.rt and of the modules
-that lib.rt declares `pub mod`, each that lib.rt names in a `pub use`, each `pub extern "C" fn`, and the public methods of
-the types that it shows likewise; and each states what it returns.
+that lib.rt declares `pub mod`, each that these name in a `pub use`, each `pub extern "C" fn`, and the public methods of
+the types and traits that it shows likewise; and each states what it returns.
 The tables of the section CALLS have a row for each public call, with two must-fail edits at least; every function of another crate that
 the crate `grain` calls has one. The section NEEDS lists the functions with a `requires`, a row for each crate: exactly
 those that have one. None of them is a public call, stands in `grain`, or is a method of a type that a crate shows.
 A must-fail edit's name begins with what it changes: `code_`, `promise_` (a contract) or `definition_` (a text in specs/).
+Each text that it changes stands in its file once.
 """
 import pathlib
 import re
@@ -19,9 +20,14 @@ import sys
 CITATION = re.compile(r'`([A-Za-z0-9_.\-/]+/[A-Za-z0-9_.\-/]+)(?::([^`\s]+))?`')
 PARTS = ('src', 'specs', 'proofs', 'must-fail')
 OTHER = ('docs', 'tests', 'oracle', 'host', 'include')
-PUBLIC = re.compile(r'^\s*pub (extern "C" )?fn (\w+)', re.M)
-FUNCTION = re.compile(r'^\s*(?:pub )?(?:extern "C" )?fn (\w+)', re.M)
-METHODS = re.compile(r'^impl(?:<[^>]*>)? (\w+).*?^}', re.M | re.S)
+# What may stand before `fn` on its line, and the name.
+HEAD = r'((?:const |unsafe )*(?:extern "C" )?)fn (\w+)'
+PUBLIC = re.compile(rf'^\s*(?:#\[.*\] )?pub {HEAD}', re.M)
+FUNCTION = re.compile(rf'^\s*(?:#\[.*\] )?(?:pub(?:\(\w+\))? )?{HEAD}', re.M)
+METHODS = re.compile(r'^impl(?:<[^{\n]*?>)? (?:[^{\n]* for )?(?:\w+::)*(\w+)(?:[^\n]*{}$|.*?^})', re.M | re.S)
+TRAITS = re.compile(r'^pub trait (\w+)(?:[^\n]*{}$|.*?^})', re.M | re.S)
+# A clause of a contract, up to its text; or where a function's body begins, or its declaration ends.
+CLAUSE = re.compile(r'\b(requires|ensures|ghost)\*?(?: \w+)? \{|\{|;$', re.M)
 CALLS = '## Two wrong programs for each public call'
 NEEDS = '## Functions with a `requires`'
 
@@ -30,9 +36,14 @@ def declares(path, text, name):
     """Whether a file of Rattle (.rt) or antt declares the name."""
     word = re.escape(name)
     if path.suffix == '.rt':
-        return re.search(rf'\b(?:fn|struct|enum|const)\s+{word}\b', text) is not None
-    head = rf'^\s*(?:(?:abbrev|unfoldable|pub|record|data)\s+)*{word}(?:\s+\{{[^}}]*\}}|\s+\([^)]*\))*\s*:'
+        return re.search(rf'\b(?:fn|struct|enum|trait|type|const)\s+{word}\b', text) is not None
+    head = rf'^\s*(?:(?:abbrev|unfoldable|opaque|pub|record|data)\s+)*{word}(?:\s+\{{[^}}]*\}}|\s+\([^)]*\))*\s*:'
     return re.search(head, text, re.M) is not None
+
+
+def named(tree):
+    """The names that the path or the grouped paths of a `use` end in."""
+    return re.findall(r'(\w+)(?!\w|\s*::)', re.sub(r'\bas\s+\w+', '', tree))
 
 
 class Crate:
@@ -42,32 +53,45 @@ class Crate:
         self.name = source.parent.name
         files = {path: path.read_text() for path in sorted(source.rglob('*.rt'))}
         root = files.get(source / 'lib.rt', '')
-        modules = set(re.findall(r'^pub mod (\w+);', root, re.M))
+        # What a `pub use` takes whole is shown as a `pub mod` is.
+        modules = set(re.findall(r'^pub mod (\w+);', root, re.M) + re.findall(r'^pub use [^;]*\b(\w+)::\*', root, re.M))
         self.texts = list(files.values())
         # The files of which every `pub` name is shown, and the names of the others that are.
         self.whole = [text for path, text in files.items() if text is root or path.stem in modules]
-        self.used = set(re.findall(r'^pub use [\w:]+::(\w+);', root, re.M))
-        types = self.used.union(*(re.findall(r'^pub (?:struct|enum) (\w+)', text, re.M) for text in self.whole))
-        # The `impl` blocks of the types that are shown.
+        self.used = {name for text in self.whole for tree in re.findall(r'^pub use ([^;]+);', text, re.M) for name in named(tree)}
+        types = self.used.union(*(re.findall(r'^pub (?:struct|enum|trait) (\w+)', text, re.M) for text in self.whole))
+        # The `impl` blocks of the types that are shown, and the traits that are.
         self.methods = [block.group() for text in self.texts for block in METHODS.finditer(text) if block.group(1) in types]
+        self.traits = [block.group() for text in self.texts for block in TRAITS.finditer(text) if block.group(1) in types]
 
     def public(self):
         """The functions that are shown."""
         for text in self.texts:
-            for extern, name in PUBLIC.findall(METHODS.sub('', text)):
-                if text in self.whole or extern or name in self.used:
+            for words, name in PUBLIC.findall(METHODS.sub('', text)):
+                if text in self.whole or 'extern' in words or name in self.used:
                     yield name
         for block in self.methods:
             yield from (name for _, name in PUBLIC.findall(block))
+        for block in self.traits:
+            yield from (name for _, name in FUNCTION.findall(block))
 
 
-def having(clause, texts):
+def clauses(text):
+    """Each clause of each function of a text: the function's name, the clause's word, and where it begins and ends."""
+    text = re.sub(r'//.*', lambda comment: ' ' * len(comment.group()), text)
+    for function in FUNCTION.finditer(text):
+        at = function.end()
+        while (clause := CLAUSE.search(text, at)) and clause.group(1):
+            depth, at = 1, clause.end()
+            while depth and at < len(text):
+                depth += {'{': 1, '}': -1}.get(text[at], 0)
+                at += 1
+            yield function.group(2), clause.group(1), clause.start(), at
+
+
+def having(word, texts):
     """The functions of these texts that have a `requires`, or an `ensures`."""
-    for text in texts:
-        parts = FUNCTION.split(text)
-        for name, rest in zip(parts[1::2], parts[2::2]):
-            if re.search(rf'^\s*{clause} \{{', rest, re.M):
-                yield name
+    return [name for text in texts for name, found, _, _ in clauses(text) if found == word]
 
 
 def rows(text, heading):
@@ -75,6 +99,17 @@ def rows(text, heading):
     lines = text.partition(heading + '\n')[2].partition('\n## ')[0].split('\n')
     found = [line for line, after in zip(lines, lines[1:] + ['']) if line.startswith('| ') and not after.startswith('|---')]
     return [[cell.strip() for cell in line.strip('|').split('|')] for line in found]
+
+
+def called(text, names):
+    """The crate and the name of each function that a text calls of these crates, by its path or by a name that it imports."""
+    imported = {name: crate for crate, tree in re.findall(r'^use (\w+)::([^;]+);', text, re.M) for name in named(tree)}
+    calls = {(crate, name) for crate, name in re.findall(r'\b(\w+)::(?:\w+::)*(\w+)\(', text)}
+    # A function of an imported type, and an imported function.
+    calls |= {(imported[above], name) for above, name in calls if above in imported}
+    calls |= {(imported[name], name) for name in re.findall(r'(?<![\w:.])(\w+)\(', text) if name in imported}
+    # (a variant begins with a capital)
+    return {(crate, name) for crate, name in calls if crate in names and name[0].islower()}
 
 
 def preconditions(crates, text):
@@ -94,36 +129,46 @@ def preconditions(crates, text):
             yield f'docs/CLAIMS.md: fewer than two edits, or no call: {row[0]}'
     names = {crate.name for crate in crates}
     for grain in (text for crate in crates if crate.name == 'grain' for text in crate.texts):
-        for crate, name in re.findall(r'\b(\w+)::(\w+)\(', grain):
-            if crate in names and (crate, name) not in calls:
-                yield f'docs/CLAIMS.md: no row for the call {name} of {crate}'
+        for crate, name in sorted(called(grain, names) - calls):
+            yield f'docs/CLAIMS.md: no row for the call {name} of {crate}'
     for crate, name in sorted(needs):
         if crate == 'grain' or (crate, name) in calls:
             yield f'{name} of {crate} is a public call with a `requires`'
     for crate in crates:
-        for name in having('requires', crate.methods):
+        for name in having('requires', crate.methods + crate.traits):
             yield f'{name} of {crate.name} is a method of a public type with a `requires`'
 
 
-def kind(path, line):
-    """What an edit changes that replaces this text in this file of a crate."""
-    if path.parent.name == 'specs':
-        return 'definition'
-    changed = [full for full in path.read_text().split('\n') if line in full] if path.is_file() else []
-    return 'promise' if any(re.match(r'\s*(?:ensures|requires) ', full) for full in changed) else 'code'
+def kind(part, text, at, end):
+    """What an edit changes that replaces this stretch of a file in this part of a crate."""
+    if part != 'src':
+        return 'definition' if part == 'specs' else 'proof'
+    contract = any(start < end and at < stop for _, word, start, stop in clauses(text) if word != 'ghost')
+    return 'promise' if contract else 'code'
 
 
-def names(root):
-    """What is wrong with the names of must-fail edits, a line each."""
+def changes(root):
+    """What is wrong with must-fail edits, a line each."""
     for edit in sorted(root.glob('crates/*/must-fail/*.edit')):
-        path, kinds = None, set()
+        path, old, texts, kinds, wrong = None, None, {}, set(), False
         for line in edit.read_text().split('\n'):
             if line.startswith('file: '):
-                path = edit.parent.parent / line.removeprefix('file: ').strip()
+                path = line.removeprefix('file: ').strip()
+                file = edit.parent.parent / path
+                texts.setdefault(path, file.read_text() if file.is_file() else '')
             elif line.startswith('old: '):
-                kinds.add(kind(path, line.removeprefix('old: ')))
-        if len(kinds) != 1 or not edit.name.startswith(f'{min(kinds)}_'):
-            yield f'{edit.relative_to(root)}: the name does not begin with what it changes, {" and ".join(sorted(kinds))}'
+                old = line.removeprefix('old: ')
+            elif line.startswith('new:') and path and old:
+                count = texts[path].count(old)
+                if count != 1:
+                    wrong = True
+                    yield f'{edit.relative_to(root)}: its text is in {path} {count} times, and not once: {old.strip()}'
+                    continue
+                at = texts[path].index(old)
+                kinds.add(kind(path.partition('/')[0], texts[path], at, at + len(old)))
+                texts[path] = texts[path].replace(old, line.removeprefix('new:').removeprefix(' '))
+        if not wrong and (len(kinds) != 1 or not edit.name.startswith(f'{min(kinds)}_')):
+            yield f'{edit.relative_to(root)}: the name does not begin with what it changes, {" and ".join(sorted(kinds)) or "nothing"}'
 
 
 def citations(text):
@@ -164,7 +209,7 @@ def problems(root):
     if count == 0:
         found.append('docs/CLAIMS.md: no citation found')
     found.extend(preconditions(crates, text))
-    found.extend(names(root))
+    found.extend(changes(root))
     return found, count
 
 

@@ -1,8 +1,9 @@
-//! Proves the library and links it: `rt staticlib grain` writes target/staticlib/libgrain.a.
+//! Proves the library and links it: in crates/grain, `rt lib` writes out/libgrain.a.
 //!
 //! Where `GRAIN_LIB_DIR` names a folder, the libgrain.a in it is linked as it is: `rt` isn't needed, and nothing is proved.
 
 use std::env;
+use std::fs;
 use std::path::{Path, PathBuf};
 use std::process::Command;
 
@@ -35,19 +36,30 @@ fn proved() -> PathBuf {
         .canonicalize()
         .expect("the repository");
     let run = Command::new("rt")
-        .args(["staticlib", "grain"])
-        .current_dir(&root)
+        .arg("lib")
+        .current_dir(root.join("crates/grain"))
         .output()
         .expect("Rattle's kit (rt) is on the PATH");
     assert!(
         run.status.success(),
-        "rt staticlib grain: {}\n{}{}",
+        "rt lib, in crates/grain: {}\n{}{}",
         run.status,
         String::from_utf8_lossy(&run.stdout),
         String::from_utf8_lossy(&run.stderr),
     );
-    for input in ["crates", "crates.txt"] {
-        println!("cargo:rerun-if-changed={}", root.join(input).display());
+    for input in inputs(&root) {
+        println!("cargo:rerun-if-changed={}", input.display());
     }
-    root.join("target/staticlib")
+    root.join("crates/grain/out")
+}
+
+/// What `rt` reads of the repository; beside it in a crate's folder is what `rt` writes.
+fn inputs(root: &Path) -> Vec<PathBuf> {
+    let mut found = vec![root.join("crates.txt")];
+    for folder in fs::read_dir(root.join("crates")).expect("the crates") {
+        let folder = folder.expect("a crate").path();
+        let parts = ["src", "specs", "proofs"].map(|part| folder.join(part));
+        found.extend(parts.into_iter().filter(|part| part.is_dir()));
+    }
+    found
 }

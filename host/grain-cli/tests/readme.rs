@@ -109,7 +109,7 @@ fn the_examples() {
         fs::read_to_string(rust).unwrap()
     );
     let archive =
-        std::env::var_os("GRAIN_LIB_DIR").map_or(root().join("target/staticlib"), PathBuf::from);
+        std::env::var_os("GRAIN_LIB_DIR").map_or(root().join("crates/grain/out"), PathBuf::from);
     let built = folder("example").join("figures");
     let compiled = Command::new("gcc")
         .args(["-std=c11", "-pedantic", "-Wall", "-Wextra", "-Werror", "-I"])
