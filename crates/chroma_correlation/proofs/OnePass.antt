@@ -11,7 +11,7 @@ use Rattle.chroma_correlation.specs.Steps.{squares_f, products_f, one_pass}
 
 pub pass-sums : (luma : Luma) (chroma : Pair) → one_pass luma chroma ≡ (squares_f luma chroma, products_f luma chroma)
 unfolding squares_f products_f window_f
-pass-sums luma chroma = 
+pass-sums luma chroma =
     loops-pair
     (λ y x s. add binary64 s (product_f (average luma) (average luma) (y, x)))
     (λ y x s. add binary64 s (product_f (average luma) (own chroma) (y, x)))

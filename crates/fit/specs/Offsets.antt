@@ -1,5 +1,5 @@
 -- "Coefficient i belongs to neighbour i": a neighbour's noise as the Rust looks it up.
-use Rattle.std.specs.Prelude.{pos, ◌+ℤ◌, nat_abs, unsigned_abs}
+use Rattle.std.specs.Prelude.{pos, ◌+ℤ◌, unsigned_abs}
 use Rattle.positions.specs.Positions.{Offset}
 use Rattle.normal.specs.Normal.{Picture}
 

@@ -1,7 +1,6 @@
 -- `whole_sigma16 s n` is the whole number nearest to 16 × root(s / n), halves up, for every s and every n above 0 (`whole-sigma16-nearest`), and there is one such number (`nearest16-unique`).
 -- The root r of 1024s / n cut to a whole number counts half units, and half of r + 1 is nearest. Assumes nothing.
 use Rattle.std.proofs.Common.{◌≡◌, ℕ, suc, ◌+◌, ◌-◌, ◌*◌, ◌/◌, ◌<◌, ◌≤◌, le_trans, lt_of_lt_of_le, mul-le-mul_right, div-lt_iff_lt-mul, mul-le-mul, le-div_iff_mul-le, arith}
-use lib.Ieee.{up, down}
 use Rattle.float.specs.Root.{whole_root}
 use Rattle.float.specs.Sigma.{Nearest16, whole_sigma16}
 use Rattle.float.proofs.Unique.{only_one}

@@ -1,6 +1,5 @@
 -- `header::write_film_grain_params`: each question in its turn, then the bits. Assumes nothing.
 use mathlib.Core.Path.{sym, ◌∙◌}
-use borrow.Author.Tests.{not-true, not-false}
 use borrow.Author.Rules.{rules}
 use Rattle.header.specs.Stored.{stored}
 use Rattle.header.specs.Scalars.{record_of}

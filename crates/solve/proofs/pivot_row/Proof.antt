@@ -24,7 +24,7 @@ loop-again c =
       elim c.if-magnitude.branch [ then-magnitude w ↦ omega arith | else-magnitude w ↦ omega arith ],
       turned_more _ _ _ _ _ c.loop-r.invariant.1 (search rules)
           (elim c.if-magnitude.branch [
-              then-magnitude w ↦ picked _ _ _ _ true _ _ _ m2 m w.if-magnitude.true w.piv-is
+            | then-magnitude w ↦ picked _ _ _ _ true _ _ _ m2 m w.if-magnitude.true w.piv-is
             | else-magnitude w ↦ picked _ _ _ _ false _ _ _ m2 m w.if-magnitude.false w.piv-is
           ]),
     )

@@ -23,7 +23,7 @@ loop-again c =
     let m = c.args.m in
     let i = l.i in
     elim c.if-t-rest.branch [
-        then-t-rest w ↦ rw (w.q-is, w.rest-is) (one-digit m l.q l.rest l.left i l.invariant c.loop-i-test.true w.if-t-rest.true)
+      | then-t-rest w ↦ rw (w.q-is, w.rest-is) (one-digit m l.q l.rest l.left i l.invariant c.loop-i-test.true w.if-t-rest.true)
       | else-t-rest w ↦ rw (w.q-is, w.rest-is) (zero-digit m l.q l.rest l.left i l.invariant c.loop-i-test.true c.if-rest-left-eq0.false w.if-t-rest.false)
     ]
 

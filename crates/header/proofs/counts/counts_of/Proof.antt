@@ -3,7 +3,6 @@ use mathlib.Core.Path.{◌≡◌, refl, sym}
 use mathlib.Core.Bool.{Bool, true, false, cond}
 use Prim.Native.Nat.{ℕ, ◌+◌}
 use native.Mathlib.Omega.{arith}
-use borrow.Author.Tests.{not-true}
 use borrow.Author.Rules.{rules}
 use Rattle.header.specs.Scalars.{scalars}
 use Rattle.header.specs.Text.{counts_of}

@@ -9,7 +9,7 @@ use mir.Syntax.{w32, w64}
 use mir.Val.{of_z, to_z}
 use Rattle.laws.specs.Sums.{total, sum_to}
 use Rattle.laws.proofs.Is.{Is, again, fits}
-use Rattle.noise.specs.Lines.{at, product}
+use Rattle.noise.specs.Lines.{product}
 use Rattle.noise.proofs.BlockSums.{wide64, fewer, line-turn}
 use Rattle.noise.proofs.blocks.dot_by.Statement.{statement}
 use Rattle.noise.proofs.blocks.dot_by.Tie as tie

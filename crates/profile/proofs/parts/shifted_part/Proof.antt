@@ -26,8 +26,7 @@ noise-line-requires c κs = run-places (part-run c.requires.0 (lows c.before) _ 
 
 returns : tie.Need-returns-then-samples_low
 returns c =
-    let A = c.args in
-    (
+    let A = c.args in (
       sym c.if-samples_low.true ∙ tested c.before.before.before.before.before.before.before,
       λ e. shift_line A.src.now A.den.now (A.depth - 8) _ _ c.requires.1 c.requires.2 c.noise_line.ensures c.shifted_line.ensures,
     )

@@ -37,8 +37,7 @@ add_r c = record { fits = omega (arith, c.requires.0.seen.low, c.loop-r-test.tru
 loop-again : tie.Need-loop-r-preserved invariant-loop decreases-loop
 loop-again c =
     let H = c.loop-r in
-    let A = c.args in
-    (
+    let A = c.args in (
       omega (arith, c.loop-r-test.true),
       c.add_row.auto.count ∙ H.invariant.1,
       c.add_row.auto.squares ∙ H.invariant.2,
