@@ -1,4 +1,4 @@
-//! Proves the library and links it: in crates/grain, `rt lib` writes out/libgrain.a.
+//! Proves the library and links it: in crates/grain, `rt lib --cpu x86-64` writes out/libgrain.a, which every x86-64 runs.
 //!
 //! Where `GRAIN_LIB_DIR` names a folder, the libgrain.a in it is linked as it is: `rt` isn't needed, and nothing is proved.
 
@@ -36,13 +36,13 @@ fn proved() -> PathBuf {
         .canonicalize()
         .expect("the repository");
     let run = Command::new("rt")
-        .arg("lib")
+        .args(["lib", "--cpu", "x86-64"])
         .current_dir(root.join("crates/grain"))
         .output()
         .expect("Rattle's kit (rt) is on the PATH");
     assert!(
         run.status.success(),
-        "rt lib, in crates/grain: {}\n{}{}",
+        "rt lib --cpu x86-64, in crates/grain: {}\n{}{}",
         run.status,
         String::from_utf8_lossy(&run.stdout),
         String::from_utf8_lossy(&run.stderr),
