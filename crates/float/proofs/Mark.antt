@@ -4,7 +4,7 @@ use lib.Signed.{lt_z}
 use lib.Ieee.{Float, nan, inf, fin, binary64, up, down, fits, is_nan}
 use Rattle.float.specs.Clamp.{clamp_of}
 use Rattle.float.specs.Coefficient.{Times64, of_no_number, below, above, nearest, times64, held, coefficient}
-use Rattle.float.specs.Mark.{inside, held_low, held_high, not_anumber, mark_of, mark, number, InsideExactly}
+use Rattle.float.specs.Mark.{inside, held_low, held_high, not_a_number, mark_of, mark, number, InsideExactly}
 use Rattle.float.specs.Round.{half_up}
 use Rattle.float.proofs.Coefficient.{quant-is-coefficient}
 
@@ -49,12 +49,12 @@ inside-exactly c t =
     }
 
 -- what is not NaN is not marked so
-held_number : (a b : Bool) → number (cond a held_low (cond b held_high inside)) ≡ number not_anumber → ⊥
+held_number : (a b : Bool) → number (cond a held_low (cond b held_high inside)) ≡ number not_a_number → ⊥
 held_number true b e = omega arith
 held_number false true e = omega arith
 held_number false false e = omega arith
 
-pub number-marked : (x : Float) → is_nan x ≡ false → number (mark x) ≡ number not_anumber → ⊥
+pub number-marked : (x : Float) → is_nan x ≡ false → number (mark x) ≡ number not_a_number → ⊥
 unfolding is_nan mark
 number-marked nan n e = true≢false n
 number-marked (inf true) n e = omega arith

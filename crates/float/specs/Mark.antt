@@ -7,11 +7,11 @@ pub data Mark : Type 0 where
   inside : Mark
   held_low : Mark
   held_high : Mark
-  not_anumber : Mark
+  not_a_number : Mark
 
 -- of 64 times a float, rounded: beyond the ends it is held
 unfoldable pub mark_of : Times64 → Mark
-mark_of of_no_number = not_anumber
+mark_of of_no_number = not_a_number
 mark_of below = held_low
 mark_of above = held_high
 mark_of (nearest z) = cond (int_lt z (neg_ℤ (pos 128))) held_low (cond (int_lt (pos 127) z) held_high inside)
@@ -25,7 +25,7 @@ abbrev pub number : Mark → ℕ
 number inside = 0
 number held_low = 1
 number held_high = 2
-number not_anumber = 3
+number not_a_number = 3
 
 -- the coefficient is the rounded value exactly where the mark is inside
 pub record InsideExactly (c : Float) : Type 0 where

@@ -1,4 +1,4 @@
--- Chroma size by the AV1 specification: (w + sub_x) >> sub_x columns and (h + sub_y) >> sub_y rows; monochrome has no chroma, and the syntax counts it as sub_x = sub_y = 1.
+-- Chroma size by the AV1 specification: (w + subX) >> subX columns and (h + subY) >> subY rows; monochrome has no chroma, and the syntax counts it as subX = subY = 1.
 use Rattle.std.specs.Prelude.{ℕ}
 use Rattle.frame.specs.Size.{sampled}
 

@@ -5,7 +5,7 @@ use Rattle.std.specs.Float.Ieee.{round, of_bits}
 use Rattle.laws.specs.Constants.{fraction}
 use Rattle.float.specs.Steps.{sigma16_of}
 use Rattle.float.specs.Sigma.{whole_sigma16, sum_of_squares}
-use Rattle.float.specs.Mark.{Mark, inside, held_low, held_high, not_anumber, number}
+use Rattle.float.specs.Mark.{Mark, inside, held_low, held_high, not_a_number, number}
 use Rattle.float.specs.declared.quant.Quantised.{Quantised}
 use Rattle.table.specs.Cases.{Case, row}
 
@@ -63,7 +63,7 @@ mark_cases =
     row (round binary64 true 128 64) (marked (neg_ℤ (pos 128)) inside) ∷
     row (whole 0) (marked (pos 0) inside) ∷
     row (minus 0) (marked (pos 0) inside) ∷
-    row nan (marked (pos 0) not_anumber) ∷
+    row nan (marked (pos 0) not_a_number) ∷
     row (inf false) (marked (pos 127) held_high) ∷
     row (inf true) (marked (neg_ℤ (pos 128)) held_low) ∷
     []
