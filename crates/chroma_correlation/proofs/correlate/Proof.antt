@@ -12,23 +12,19 @@ tap-sums-requires c κs =
     let F = c.requires in
     record { frame = F; window = window-0 _ _; cb-sized = refl; cr-sized = refl }
 
--- what is known at entry, once the sums are made
-abbrev entry : tie.After-tap_sums-squares → tie.Start
-entry c = c.before.before.before.before.before.before.before.before.before
-
 tap-requires : tie.Need-tap-blue-requires
 tap-requires c κs =
-    let F = (entry c.before.before.before).requires in
+    let F = c.requires in
     sums-small F.over F.luma F.cb c.tap_sums-squares.ensures.cb-are c.tap_sums-squares.ensures.squares-are
 
 tap-requires-2 : tie.Need-tap-red-requires
 tap-requires-2 c κs =
-    let F = (entry c.before.before.before.before.before).requires in
+    let F = c.requires in
     sums-small F.over F.luma F.cr c.tap_sums-squares.ensures.cr-are c.tap_sums-squares.ensures.squares-are
 
 returns : tie.Need-returns
 returns c =
-    let F = (entry c.before.before.before.before.before.before.before.before).requires in
+    let F = c.requires in
     let u = c.tap-blue in
     let v = c.tap-red in
     let blue = u.ensures ∙ tap-held F.over F.luma F.cb c.tap_sums-squares.ensures.cb-are c.tap_sums-squares.ensures.squares-are both in

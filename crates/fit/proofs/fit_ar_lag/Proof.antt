@@ -1,17 +1,11 @@
 -- `fit::fit_ar_lag` meets its contract: the questions, luma's fit, then chroma's, each apart. Assumes nothing.
-use Rattle.std.proofs.Common.{◌≤◌, sym, ◌∙◌, arith, rules}
-use Rattle.frame.specs.Planes.{geometry_of}
+use Rattle.std.proofs.Common.{sym, ◌∙◌, arith, rules}
 use Rattle.frame.proofs.Accepted.{fit-inside}
-use Rattle.noise.specs.Seen.{SeenFrame}
 use Rattle.noise.proofs.Accepted.{fit-seen}
 use Rattle.positions.proofs.Counts.{neighbours-le}
 use Rattle.fit.proofs.Answers.{refused, none, some}
 use Rattle.fit.proofs.fit_ar_lag.Statement.{statement}
 use Rattle.fit.proofs.fit_ar_lag.Tie as tie
-
--- what is known once the questions are passed
-granted : (c : tie.Else-refused-ne0) → (let a = c.args in SeenFrame (geometry_of a.s) a.y.now a.yden.now a.cb.now a.cbden.now a.cr.now a.crden.now × (a.lag ≤ 3))
-granted c = fit-seen _ _ _ _ _ _ _ _ (sym c.fit_refusal-refused.ensures ∙ c.if-refused-ne0.false)
 
 geometry-of-requires : tie.Need-geometry_of-geometry-requires
 geometry-of-requires c κs = fit-inside _ _ _ _ _ _ _ _ (sym c.fit_refusal-refused.ensures ∙ c.if-refused-ne0.false)
@@ -20,11 +14,11 @@ returns : tie.Need-returns-then-refused-ne0
 returns c = c.unfitted.ensures ∙ refused _ _ _ _ _ _ _ _ _ c.fit_refusal-refused.ensures c.if-refused-ne0.true
 
 luma-fit-requires : tie.Need-luma_fit-requires
-luma-fit-requires c κs = let g = granted c.before.before.before in (rw c.geometry_of-geometry.ensures g.0.luma, g.1)
+luma-fit-requires c κs = let g = fit-seen _ _ _ _ _ _ _ _ (sym c.fit_refusal-refused.ensures ∙ c.if-refused-ne0.false) in (rw c.geometry_of-geometry.ensures g.0.luma, g.1)
 
 all-zero-requires : tie.Need-all_zero-requires
 all-zero-requires c κs =
-    omega (arith, neighbours-le (granted c.before.before.before.before.before.before.before.before.before).1, c.neighbour_count-count.ensures)
+    omega (arith, neighbours-le (fit-seen _ _ _ _ _ _ _ _ (sym c.fit_refusal-refused.ensures ∙ c.if-refused-ne0.false)).1, c.neighbour_count-count.ensures)
 
 returns-2 : tie.Need-returns-then-all_zero
 returns-2 c =
@@ -33,7 +27,7 @@ returns-2 c =
 
 chroma-fit-requires : tie.Need-chroma_fit-chroma-requires
 chroma-fit-requires c κs =
-    let g = granted c.before.before.before.before.before.before.before.before.before.before.before in
+    let g = fit-seen _ _ _ _ _ _ _ _ (sym c.fit_refusal-refused.ensures ∙ c.if-refused-ne0.false) in
     (rw c.geometry_of-geometry.ensures g.0, g.1)
 
 returns-3 : tie.Need-returns
@@ -49,7 +43,7 @@ fit_ar_lag_spec =
     (λ c κs. search rules)
     returns
     geometry-of-requires
-    (λ c κs. (granted c.before).1)
+    (λ c κs. (fit-seen _ _ _ _ _ _ _ _ (sym c.fit_refusal-refused.ensures ∙ c.if-refused-ne0.false)).1)
     luma-fit-requires
     (λ c. search rules)
     (λ c. search rules)
