@@ -1,18 +1,32 @@
-// What each call answers to the numbers of a line. The calls are counted as in the report.
-use crate::case::{Answer, Case};
+// What each call answers to the numbers of a line.
+use crate::answer::Answer;
+use crate::call::Call;
+use crate::case::Case;
+use crate::numbers::Numbers;
+use crate::systems::System;
 use crate::{frame_calls, gate_calls, number_calls, plane_calls};
+use std::alloc::{AllocError, Global};
 
-// The answer of any call.
-pub fn answer(call: u64, c: Case) -> Answer {
+pub fn answer(alloc: Global, call: Call, numbers: &mut Numbers<'_>) -> Result<Answer, AllocError> {
     match call {
-        0 | 1 | 2 => plane_calls::answer(call, c),
-        3 => gate_calls::answer(call, c, 2),
-        4 => gate_calls::answer(call, c, 0),
-        9 => number_calls::ar_positions(c),
-        10 => number_calls::solve_normal(c),
-        11 => number_calls::quant_ar(c),
-        12 => number_calls::grain_seed_for(c),
-        13 => number_calls::random_register(c),
-        _ => frame_calls::answer(call, c),
+        Call::DenoisePlane => plane_calls::denoise_plane(alloc, &Case::read(numbers)),
+        Call::PlaneSigma16 => plane_calls::plane_sigma16(alloc, &Case::read(numbers)),
+        Call::LagHRho => plane_calls::lag_h_rho(alloc, &Case::read(numbers)),
+        Call::FilmGrainProbe => gate_calls::film_grain_probe(alloc, &Case::read(numbers)),
+        Call::ChromaNoiseGate => gate_calls::chroma_noise_gate(alloc, &Case::read(numbers)),
+        Call::DenoiseFrame => frame_calls::denoise_frame(alloc, &Case::read(numbers)),
+        Call::NoiseEstimate => frame_calls::noise_estimate(alloc, &Case::read(numbers)),
+        Call::FitChromaCorr => frame_calls::fit_chroma_corr(alloc, &Case::read(numbers)),
+        Call::FitArLag => frame_calls::fit_ar_lag(alloc, &Case::read(numbers)),
+        Call::ArPositions => Ok(number_calls::ar_positions(numbers.read())),
+        Call::SolveNormal => {
+            let system = System::from(numbers.read::<u64>());
+            Ok(number_calls::solve_normal(system, numbers.read(), numbers.read()))
+        }
+        Call::QuantAr => Ok(number_calls::quant_ar(numbers.read())),
+        Call::GrainSeedFor => Ok(number_calls::grain_seed_for(numbers.read())),
+        Call::RandomRegister => {
+            Ok(number_calls::random_register(numbers.read(), numbers.read()))
+        }
     }
 }

@@ -1,24 +1,34 @@
 // Numbers that look random, by shifts and exclusive ors alone: the recorder draws the same ones.
-
-use crate::casts::low32;
+ghost use Rattle.std.specs.Prelude.{◌≡◌, IsSome};
 
 // The number after x; 0 stays 0.
-pub fn next(x: u32) -> u32 {
+fn next(x: u32) -> u32
+    ensures { x ≡ 0 → result ≡ 0 }
+{
     let a = x ^ (x << 13);
     let b = a ^ (a >> 17);
     b ^ (b << 5)
 }
 
-// Where the numbers of a seed begin; each stream of a seed has its own.
-pub fn start(seed: u32, stream: u64) -> u32 {
-    let x = 0x9e37_79b9 ^ (seed << 8) ^ (low32(stream) << 4);
-    next(next(next(next(x))))
+// The numbers of a stream, without end.
+#[derive(Clone, Copy)]
+pub struct Draws(u32);
+
+impl Draws {
+    // Each stream of a seed begins elsewhere.
+    pub fn new(seed: u32, stream: u32) -> Self {
+        let x = 0x9e37_79b9 ^ (seed << 8) ^ (stream << 4);
+        Draws(next(next(next(next(x)))))
+    }
 }
 
-// One more value in a digest. Zeros alone leave it 0.
-pub fn mixed(digest: u64, value: u64) -> u64 {
-    let x = digest ^ value;
-    let a = x ^ (x << 13);
-    let b = a ^ (a >> 7);
-    b ^ (b << 17)
+impl Iterator for Draws {
+    type Item = u32;
+
+    ghost next_gives = { λ _ r _. IsSome r };
+
+    fn next(&mut self) -> Option<u32> {
+        self.0 = next(self.0);
+        Some(self.0)
+    }
 }

@@ -2,21 +2,25 @@
 // came out; then each recorded list in data/, with how many calls it has and how many answered otherwise.
 #![tactic(auto)]
 
+mod answer;
 mod answers;
+mod call;
 mod case;
-mod casts;
-mod digests;
+mod digest;
 mod draws;
+mod fault;
 mod frame_calls;
 mod gate_calls;
-mod lines;
+mod kind;
 mod number_calls;
+mod numbers;
+mod plane;
 mod plane_calls;
 mod planes;
 mod reads;
 mod replay;
 mod report;
-mod say;
+mod sample;
 mod systems;
 mod worked;
 

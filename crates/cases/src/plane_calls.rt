@@ -1,57 +1,38 @@
-// What the calls on a lone plane answer.
-use crate::case::{Answer, Case};
-use crate::casts::bits;
-use crate::digests::samples_into;
-use crate::planes::{lent, part, plane, planes};
+// What the calls on a lone plane answer: the first plane and its copy.
+use crate::answer::{Answer, number_of};
+use crate::case::Case;
+use crate::digest::Digest;
+use crate::plane::{Pair, Size};
+use crate::planes::PlanePair;
+use std::alloc::{AllocError, Global};
+
+fn planes(alloc: Global, case: &Case) -> Result<PlanePair, AllocError> {
+    case.pair(alloc, Pair::First, Size::Luma)
+}
 
 // The destination as a digest, after a refusal too.
-fn denoise_into(c: Case, src: &[u16], dst: &mut [u16]) -> Answer {
-    let refusal = denoise::denoise_plane(src, dst, c.width, c.height);
-    Answer {
-        refusal,
-        value: samples_into(0, dst),
-        figure: 0,
-    }
+pub fn denoise_plane(alloc: Global, case: &Case) -> Result<Answer, AllocError> {
+    let mut planes = planes(alloc, case)?;
+    case.begin(Size::Luma, planes.denoised.as_mut_slice());
+    let outcome = denoise::denoise_plane(
+        planes.source.as_slice(),
+        planes.denoised.as_mut_slice(),
+        case.width,
+        case.height,
+    );
+    let digest = Digest::default().with_all(planes.denoised.as_slice());
+    Ok(Answer::new(number_of(&outcome), digest.finish()))
 }
 
-fn denoise_plane(c: Case, src: &[u16]) -> Answer {
-    let mut dst = plane(c, 1, 4);
-    let count = lent(c, 1, 4);
-    denoise_into(c, src, &mut dst[0..count])
-}
-
-fn sigma16_answer(s: profile::Sigma) -> Answer {
-    Answer {
-        refusal: s.refusal,
-        value: s.sigma16,
-        figure: 0,
-    }
+pub fn plane_sigma16(alloc: Global, case: &Case) -> Result<Answer, AllocError> {
+    let planes = planes(alloc, case)?;
+    let lent = planes.lent();
+    Ok(Answer::of(profile::plane_sigma16(lent, case.width, case.height, case.depth)))
 }
 
 // The correlation as its bits.
-fn rho_answer(rho: gate::Rho) -> Answer {
-    match rho {
-        gate::Rho::Refused(n) => Answer {
-            refusal: n,
-            value: 0,
-            figure: 0,
-        },
-        gate::Rho::Value(x) => Answer {
-            refusal: 0,
-            value: bits(x),
-            figure: 0,
-        },
-    }
-}
-
-// A call on the first plane and its copy.
-pub fn answer(call: u64, c: Case) -> Answer {
-    let all = planes(c, 1);
-    let src = part(&all, c, 1, 1);
-    let den = part(&all, c, 1, 4);
-    match call {
-        0 => denoise_plane(c, src),
-        1 => sigma16_answer(profile::plane_sigma16(src, den, c.width, c.height, c.depth)),
-        _ => rho_answer(gate::lag_h_rho(src, den, c.width, c.height, c.argument as usize, c.depth)),
-    }
+pub fn lag_h_rho(alloc: Global, case: &Case) -> Result<Answer, AllocError> {
+    let planes = planes(alloc, case)?;
+    let lag = case.argument as usize;
+    Ok(Answer::of(gate::lag_h_rho(planes.lent(), case.width, case.height, lag, case.depth)))
 }

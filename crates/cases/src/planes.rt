@@ -1,289 +1,145 @@
-// The planes of a recorded call, made from its numbers; the recorder makes the same ones. Planes 1 to 3 are sources, 4 to 6 their
-// denoised copies. All six stand in one array, each with room of its own.
-ghost use Rattle.std.specs.Prelude.{◌≡◌, ◌≤◌, length};
+// The planes of a recorded call, made from its numbers; the recorder makes the same ones.
+ghost use Rattle.std.specs.Prelude.{◌≡◌, ◌≢◌, ◌^◌, ◌<◌, ◌≤◌, IfOk, IsNone, vec_len};
+ghost use Rattle.cases.specs.Planes.{IsDepth, IsWithinOne, samples_of, room_of};
 
 use crate::case::Case;
-use crate::draws::{next, start};
+use crate::draws::Draws;
+use crate::fault::Fault;
+use crate::kind::Level;
+use crate::plane::{Pair, Plane, Size};
+use crate::sample::top_of;
+use frame::Planes;
+use std::alloc::{AllocError, Global};
 
-// Room for the largest recorded plane, and a sample more.
-pub const ROOM: usize = 8256;
+// The most samples that are lent of a plane.
+const ROOM: usize = 8256;
 
-// Room for all six.
-pub const ALL: usize = 49536;
+#[derive(Drop)]
+pub struct PlanePair {
+    pub source: Vec<u16>,
+    pub denoised: Vec<u16>,
+}
 
-// A pair is a source and its copy: 1 to 3, as the source.
-fn pair_of(plane: u64) -> u64 {
-    match plane {
-        1 | 4 => 1,
-        2 | 5 => 2,
-        _ => 3,
+// A frame and its denoised copy.
+#[derive(Drop)]
+pub struct FramePair {
+    pub y: PlanePair,
+    pub cb: PlanePair,
+    pub cr: PlanePair,
+}
+
+impl PlanePair {
+    pub fn lent(&self) -> frame::Pair<'_> {
+        frame::Pair {
+            source: self.source.as_slice(),
+            denoised: self.denoised.as_slice(),
+        }
     }
 }
 
-// Where a plane begins.
-fn start_of(plane: u64) -> usize
-    ensures { result ≤ 41280 }
+impl FramePair {
+    pub fn lent(&self) -> frame::FramePair<'_> {
+        frame::FramePair {
+            source: Planes {
+                y: self.y.source.as_slice(),
+                cb: self.cb.source.as_slice(),
+                cr: self.cr.source.as_slice(),
+            },
+            denoised: Planes {
+                y: self.y.denoised.as_slice(),
+                cb: self.cb.denoised.as_slice(),
+                cr: self.cr.denoised.as_slice(),
+            },
+        }
+    }
+}
+
+// The first sample that is too high; where none is, one that is lent all the same.
+fn above_top(depth: u8) -> u16
+    ensures { IsDepth depth → depth ≢ 16 → result ≡ 2 ^ depth }
 {
-    match plane {
-        1 => 0,
-        2 => 8256,
-        3 => 16512,
-        4 => 24768,
-        5 => 33024,
-        _ => 41280,
-    }
+    top_of(depth).checked_add(1).unwrap_or(256)
 }
 
-// The highest sample of a depth; all u16 where a call takes no depth, recorded as 16.
-fn top_of(depth: u8) -> u16 {
-    match depth {
-        16 => 65535,
-        12 => 4095,
-        10 => 1023,
-        _ => 255,
+impl Case {
+    pub fn frame(&self, alloc: Global) -> Result<FramePair, AllocError> {
+        Ok(FramePair {
+            y: self.pair(alloc, Pair::First, Size::Luma)?,
+            cb: self.pair(alloc, Pair::Second, Size::Chroma)?,
+            cr: self.pair(alloc, Pair::Third, Size::Chroma)?,
+        })
     }
-}
 
-// The first sample that is too high.
-fn above_top(depth: u8) -> u16 {
-    match depth {
-        12 => 4096,
-        10 => 1024,
-        _ => 256,
+    pub fn pair(&self, alloc: Global, pair: Pair, size: Size) -> Result<PlanePair, AllocError> {
+        Ok(PlanePair {
+            source: self.plane(alloc, Plane::Source(pair), size)?,
+            denoised: self.plane(alloc, Plane::Denoised(pair), size)?,
+        })
     }
-}
 
-// A level, up by a size or down by it, held to 0 and top.
-fn moved(level: u16, rises: bool, size: u16, top: u16) -> u16 {
-    if rises {
-        if top <= level {
-            return level;
-        }
-        if size <= top - level {
-            return level + size;
-        }
-        return top;
+    // The samples of a plane that are lent; the middle one is too high where the fault asks for it.
+    fn plane(&self, alloc: Global, plane: Plane, size: Size) -> Result<Vec<u16>, AllocError>
+        ensures sound { IsNone self.now.fault → IfOk result (λ samples. vec_len samples ≡ room_of self.now size) }
+        ensures near { IfOk result (λ samples. IsWithinOne (room_of self.now size) (vec_len samples)) }
+        ensures room { IfOk result (λ samples. vec_len samples ≤ 8256) }
+    {
+        let middle = self.samples(size) / 2;
+        let is_too_high = self.fault == Some(Fault::TooHigh(plane));
+        let common = Draws::new(self.seed, 0);
+        let own = Draws::new(self.seed, plane.pair() as u32);
+        (0..self.lent(plane, size))
+            .zip(common.zip(own))
+            .map(|(i, (common, own))| if is_too_high && i == middle {
+                above_top(self.depth)
+            } else {
+                self.sample(plane, self.column(size, i), common, own)
+            })
+            .collect(alloc)
     }
-    if size <= level {
-        return level - size;
-    }
-    0
-}
 
-// A kind is the noise: 0 small, 1 any, 2 none, 3 the extremes, 4 ones, 5 ones of either sign, 6 to 8 stripes, 9 rare ones, 10 one
-// extreme, 11 stripes but for rare places, 12 equal rows, 13 a ramp. And 16 times the level: 0 any, 1 the middle, 2 low, 3 low with
-// less noise in the first pair. Of worked cases alone: noise 14, ones whose signs are the bits of the share, in the second pair of the
-// seed, and 15, ones in the first columns, as many as the share; level 4, the share, and 5, 0 in those columns and 128 in the others,
-// of a plane that is a single row.
-
-// Whether the sign of a column is positive.
-fn sign_of(c: Case, pair: u64, column: u64) -> bool {
-    if pair == 1 {
-        return (c.share >> (column % 64)) % 2 == 1;
-    }
-    (c.seed as u64 >> (column % 64)) % 2 == 1
-}
-
-// Whether a noise is positive.
-fn is_up(c: Case, pair: u64, column: u64, draw: u32) -> bool {
-    match c.kind % 16 {
-        4 | 10 | 13 | 15 => true,
-        6 | 11 => column % 2 == 0,
-        7 => column / 8 % 2 == 0,
-        8 => column / 16 % 2 == 0,
-        12 => 0x5a3c_96e1 / (1 + column % 31) % 2 == 0,
-        14 => sign_of(c, pair, column),
-        _ => draw < 0x8000_0000,
-    }
-}
-
-// One of two sizes.
-fn either(first: bool, a: u16, b: u16) -> u16 {
-    if first {
-        return a;
-    }
-    b
-}
-
-// The size of a noise.
-fn size_of(c: Case, top: u16, column: u64, draw: u32) -> u16 {
-    let drawn = (draw / 256 % 65536) as u16;
-    let rare = draw / 256 % 64 == 0;
-    match c.kind % 16 {
-        0 => drawn & (top >> 5),
-        1 => drawn & top,
-        3 | 10 => top,
-        4 | 5 | 14 => 1,
-        6 | 7 | 8 => 2,
-        9 => either(rare, 1, 0),
-        11 => either(rare, 1, 2),
-        12 => 5,
-        13 => (column % 8) as u16,
-        15 => either(column < c.share, 1, 0),
-        _ => 0,
-    }
-}
-
-// The first pair's noise may be an eighth of the others'.
-fn lessened(kind: u64, pair: u64, size: u16) -> u16 {
-    if pair == 1 {
-        if kind / 16 == 3 {
-            return size >> 3;
+    // A copy that is written begins as zeros where it leaves none of its room.
+    pub fn begin(&self, size: Size, copy: &mut [u16])
+        ensures { samples_of self.now size < 8256 → copy.new ≡ copy.old }
+    {
+        if self.samples(size) >= ROOM {
+            copy.fill(0);
         }
     }
-    size
-}
 
-// Of 16 noises, as many as the share are those of the first pair.
-fn drawn(share: u64, pair: u64, common: u32, own: u32) -> u32 {
-    if pair == 1 {
-        return common;
-    }
-    let place = (own % 16) as u64;
-    if place < share {
-        return common;
-    }
-    own
-}
-
-// The denoised sample.
-fn level_of(c: Case, top: u16, column: u64, rises: bool, own: u32) -> u16 {
-    let drawn = (own / 65536) as u16;
-    match c.kind % 16 {
-        3 | 10 => return either(rises, 0, top),
-        _ => {}
-    }
-    match c.kind / 16 {
-        0 => drawn & top,
-        1 => top / 2,
-        4 => (c.share % 65536) as u16,
-        5 => either(column < c.share, 0, 128),
-        _ => drawn & (top >> 4),
-    }
-}
-
-// The sample of a plane at a column: the level, or the level with its noise; the middle one is too high where the fault asks for it.
-fn sample(c: Case, plane: u64, middle: bool, column: u64, common: u32, own: u32) -> u16 {
-    if middle {
-        if c.fault == 24 + plane % 8 {
-            return above_top(c.depth);
+    // How many samples of a plane are lent.
+    fn lent(&self, plane: Plane, size: Size) -> usize
+        ensures sound { IsNone self.now.fault → result ≡ room_of self.now size }
+        ensures near { IsWithinOne (room_of self.now size) result }
+        ensures room { result ≤ 8256 }
+    {
+        let samples = self.samples(size);
+        if samples >= ROOM {
+            return ROOM;
+        }
+        match self.fault {
+            Some(Fault::Short(short)) if short == plane => samples.saturating_sub(1),
+            Some(Fault::Long(long)) if long == plane => samples + 1,
+            _ => samples,
         }
     }
-    let pair = pair_of(plane);
-    let top = top_of(c.depth);
-    let draw = drawn(c.share, pair, common, own);
-    let rises = is_up(c, pair, column, draw);
-    let level = level_of(c, top, column, rises, own);
-    if 3 < plane {
-        return level;
-    }
-    let size = size_of(c, top, column, draw);
-    moved(level, rises, lessened(c.kind, pair, size), top)
-}
 
-// The column of the sample at a place.
-fn column_of(i: usize, columns: usize) -> u64 {
-    if columns == 0 {
-        return 0;
-    }
-    (i % columns) as u64
-}
-
-// The samples that the shape asks for: the first `lumas` pairs are of luma's size, the others of chroma's.
-fn samples_of(c: Case, lumas: u64, plane: u64) -> usize {
-    if pair_of(plane) <= lumas {
-        return c.luma;
-    }
-    c.chroma
-}
-
-// The columns of a plane.
-fn columns_of(c: Case, lumas: u64, plane: u64) -> usize {
-    if c.kind / 16 == 5 {
-        return ROOM;
-    }
-    if pair_of(plane) <= lumas {
-        return c.width;
-    }
-    let format = c.format;
-    match format {
-        1 | 2 => c.width - c.width / 2,
-        _ => c.width,
-    }
-}
-
-// The samples of a plane that begins at a place, and one more.
-fn fill(values: &mut [u16], at: usize, c: Case, lumas: u64, plane: u64) {
-    let samples = samples_of(c, lumas, plane);
-    let columns = columns_of(c, lumas, plane);
-    if values.len() <= at {
-        return;
-    }
-    if values.len() - at <= samples {
-        return;
-    }
-    let mut common = start(c.seed, 0);
-    let mut own = start(c.seed, pair_of(plane));
-    for i in 0..samples + 1 {
-        common = next(common);
-        own = next(own);
-        values[at + i] = sample(
-            c,
-            plane,
-            i == samples / 2,
-            column_of(i, columns),
-            common,
-            own,
-        );
-    }
-}
-
-// A plane by itself.
-pub fn plane(c: Case, lumas: u64, plane: u64) -> [u16; ROOM]
-    ensures { 8256 ≡ length result }
-{
-    let mut values = [0; ROOM];
-    fill(&mut values, 0, c, lumas, plane);
-    values
-}
-
-// All six planes.
-pub fn planes(c: Case, lumas: u64) -> [u16; ALL] {
-    let mut all = [0; ALL];
-    fill(&mut all, 0, c, lumas, 1);
-    fill(&mut all, 8256, c, lumas, 2);
-    fill(&mut all, 16512, c, lumas, 3);
-    fill(&mut all, 24768, c, lumas, 4);
-    fill(&mut all, 33024, c, lumas, 5);
-    fill(&mut all, 41280, c, lumas, 6);
-    all
-}
-
-// How many samples of a plane are lent.
-pub fn lent(c: Case, lumas: u64, plane: u64) -> usize
-    ensures { result ≤ 8256 }
-{
-    let samples = samples_of(c, lumas, plane);
-    if ROOM <= samples {
-        return ROOM;
-    }
-    if c.fault == 16 + plane % 8 {
-        return samples + 1;
-    }
-    if c.fault == 8 + plane % 8 {
-        if 0 < samples {
-            return samples - 1;
+    // The samples that the shape asks for.
+    fn samples(&self, size: Size) -> usize
+        ensures { result ≡ samples_of self.now size }
+    {
+        match size {
+            Size::Luma => self.luma,
+            Size::Chroma => self.chroma,
         }
     }
-    samples
-}
 
-// The samples of a plane that are lent, of all.
-pub fn part<'a>(all: &'a [u16], c: Case, lumas: u64, plane: u64) -> &'a [u16] {
-    let at = start_of(plane);
-    let end = at + lent(c, lumas, plane);
-    if end <= all.len() {
-        return &all[at..end];
+    // The column of the sample at a place.
+    fn column(&self, size: Size, i: usize) -> u64 {
+        let columns = match (self.kind.level, size, self.format) {
+            (Level::FirstColumns, _, _) => return i as u64,
+            (_, Size::Chroma, 1 | 2) => self.width.div_ceil(2),
+            _ => self.width,
+        };
+        i.checked_rem(columns).unwrap_or(0) as u64
     }
-    all
 }

@@ -1,101 +1,71 @@
 // The recorded lists: what the Rust answered, and the numbers of each refused call, against what the calls answer here.
 ghost use Rattle.std.specs.Prelude.{◌≡◌, ◌↔◌, ◌≤◌, IfOk};
 
+use crate::answer::Outcome;
 use crate::answers::answer;
-use crate::case::{Answer, Case};
-use crate::lines::{case_at, line_at};
-use crate::say::{say, say_word};
-use crate::worked::show;
+use crate::call::Call;
+use crate::numbers::Numbers;
 use anyhow::Context;
 use std::rt::Files;
-use std::{fs, io};
-
-// Stands for a call, of lines that are worked cases.
-pub const WORKED: u64 = 14;
+use std::{fmt, fs};
 
 // How many calls a list has, and how many answered otherwise.
 #[derive(Clone, Copy)]
-pub struct Counts {
+struct Counts {
     calls: usize,
     differences: usize,
+    ghost in_calls: { differences ≤ calls },
 }
 
-// What a line was answered with.
-fn say_answer(
-    rt: &impl Print,
-    name: &str,
-    word: &str,
-    number: usize,
-    refusal: u64,
-    value: u64,
-) -> io::Result<()> {
-    print!(rt; "{name}")?;
-    say_word(rt, word, number as u64)?;
-    say_word(rt, " refusal ", refusal)?;
-    say_word(rt, " answer ", value)?;
-    println!(rt)
+impl fmt::Display for Counts {
+    fn fmt<W: fmt::Write>(&self, f: &mut fmt::Formatter<W>) -> fmt::Result {
+        write!(f, "{} calls, {} differences", self.calls, self.differences)
+    }
 }
 
 // 1 where an answer is another than the recorded one, else 0.
-fn difference(a: Answer, c: Case) -> usize
+fn difference(answer: Outcome, recorded: Outcome) -> usize
     ensures bound { result ≤ 1 }
-    ensures same { (result ≡ 0) ↔ ((a.refusal ≡ c.refusal) × (a.value ≡ c.answer)) }
+    ensures same { (result ≡ 0) ↔ ((answer.refusal ≡ recorded.refusal) × (answer.value ≡ recorded.value)) }
 {
-    if a.refusal as u64 == c.refusal {
-        if a.value == c.answer {
-            return 0;
-        }
-    }
-    1
+    usize::from(answer != recorded)
 }
 
-// How many differences a line has: where its answer is another than the recorded one, both are written. A worked case is shown.
-fn replay_line(
-    rt: &impl Print,
-    name: &str,
-    call: u64,
+// How many differences a line has: where its answer is another than the recorded one, both are written.
+fn replay_line<R: Print + AllocGlobal>(
+    rt: &R,
+    call: Call,
     number: usize,
-    line: &[u8],
-) -> io::Result<usize>
+    line: &str,
+) -> anyhow::Result<usize>
     ensures { IfOk result (λ n. n ≤ 1) }
 {
-    if call == WORKED {
-        show(rt, line)?;
-        return Ok(0);
-    }
-    let c = case_at(line, 0);
-    let a = answer(call, c);
-    let differences = difference(a, c);
+    let mut numbers = Numbers::of(line);
+    let recorded = Outcome::read(&mut numbers);
+    let answer = answer(rt.alloc(), call, &mut numbers)?.outcome;
+    let differences = difference(answer, recorded);
     if differences > 0 {
-        say_answer(rt, name, " line ", number, a.refusal as u64, a.value)?;
-        say_answer(rt, name, " recorded, line ", number, c.refusal, c.answer)?;
+        println!(rt; "{call} line {number} {answer}")?;
+        println!(rt; "{call} recorded, line {number} {recorded}")?;
     }
     Ok(differences)
 }
 
-// Every line of a text.
-pub fn compare(rt: &impl Print, name: &str, call: u64, text: &[u8]) -> io::Result<Counts> {
-    let mut at = 0;
+// Every line of a list.
+fn compare<R: Print + AllocGlobal>(rt: &R, call: Call, list: &str) -> anyhow::Result<Counts> {
     let mut calls = 0;
     let mut differences = 0;
-    while at < text.len() {
-        let line = line_at(text, at);
+    for line in list.split_terminator('\n') {
         calls += 1;
-        differences += replay_line(rt, name, call, calls, line)?;
-        at += line.len() + 1;
+        differences += replay_line(rt, call, calls, line)?;
     }
     Ok(Counts { calls, differences })
 }
 
-fn say_counts(rt: &impl Print, name: &str, counts: Counts) -> io::Result<()> {
-    say(rt, name.as_bytes(), counts.calls as u64)?;
-    say_word(rt, " calls, ", counts.differences as u64)?;
-    println!(rt; " differences")
-}
-
 // A list is a file of the call's name. The report ends at one that can't be read.
-pub fn replay(rt: &(impl Files + Print + Alloc), name: &str, call: u64) -> anyhow::Result<()> {
-    let list = fs::read(rt, name).context(format_args!("reading {name}"))?;
-    say_counts(rt, name, compare(rt, name, call, &list)?)?;
+pub fn replay<R: Files + Print + AllocGlobal>(rt: &R, call: Call) -> anyhow::Result<()> {
+    let list = fs::read_to_string(rt, call.name()).context(format_args!("reading {call}"))?;
+    let counts = compare(rt, call, list.as_str())?;
+    println!(rt; "{call}: {counts}")?;
     Ok(())
 }

@@ -1,92 +1,100 @@
 // The equations of a recorded solver call, made from a kind and a seed; the recorder makes the same ones.
-use crate::draws::{next, start};
+ghost use Rattle.std.specs.Prelude.{◌≡◌, ◌<◌, ◌≤◌, Some, slice_get};
+ghost use Rattle.cases.specs.declared.systems.TheConstants.System.{ALL};
+ghost use Rattle.cases.specs.declared.systems.System.TheVariants.{Whole};
 
-fn float_of(n: u64) -> f64 {
-    std::num::nearest_u64_to_f64(n)
+use crate::draws::Draws;
+
+// What the numbers of a system are.
+#[derive(Clone, Copy, PartialEq, Eq)]
+pub enum System {
+    Whole,
+    LargeDiagonal,
+    NearlyOneRow,
+    OneRow,
+    SomeInfinite,
+    HalfZeros,
+    UnevenRows,
+    SomeNan,
+    // Zeros but for the diagonal, whose pivots are about 1e-9.
+    SmallPivots,
+    PivotsAtLimit,
+    // In a worked case: pivots of 9e-10.
+    PivotsBelowLimit,
 }
 
-// A whole number from -128 to 127.
-fn drawn(draw: u32) -> f64 {
-    float_of((draw / 256 % 256) as u64) - 128.0
-}
+impl System {
+    // In the order in which lines number them.
+    const ALL: [System; 11] = [
+        System::Whole,
+        System::LargeDiagonal,
+        System::NearlyOneRow,
+        System::OneRow,
+        System::SomeInfinite,
+        System::HalfZeros,
+        System::UnevenRows,
+        System::SomeNan,
+        System::SmallPivots,
+        System::PivotsAtLimit,
+        System::PivotsBelowLimit,
+    ];
 
-// Row r, column c of nearly one row many times.
-fn nearly(r: u64, c: u64, x: f64) -> f64 {
-    (float_of(r) + 1.0) * (float_of(c) + 1.0) + x / 8589934592.0
-}
-
-// A large diagonal among numbers; pivots about 1e-9, of 1e-9 and of 9e-10 among zeros.
-fn on_diagonal(kind: u64, diagonal: bool, x: f64) -> f64 {
-    if diagonal {
-        match kind {
-            1 => return 4096.0 + x,
-            8 => return x * 1e-10,
-            9 => return 1e-9,
-            _ => return 9e-10,
+    // The number in row r, column c.
+    fn entry(self, r: u32, c: u32, draw: u32) -> f64 {
+        // A whole number from -128 to 127.
+        let x = f64::from(draw / 256 % 256) - 128.0;
+        let is_diagonal = r == c;
+        let is_rare = draw / 65536 % 16 == 0;
+        match self {
+            System::LargeDiagonal if is_diagonal => 4096.0 + x,
+            System::NearlyOneRow => {
+                (f64::from(r) + 1.0) * (f64::from(c) + 1.0) + x / 8589934592.0
+            }
+            System::OneRow => f64::from(c % 5) + 1.0,
+            System::SomeInfinite if is_rare => f64::INFINITY,
+            System::HalfZeros if r % 2 == c % 2 => 0.0,
+            System::UnevenRows if r % 2 == 0 => x * 1e306,
+            System::UnevenRows => x / 1048576.0,
+            System::SomeNan if is_rare => f64::NAN,
+            System::SmallPivots if is_diagonal => x * 1e-10,
+            System::PivotsAtLimit if is_diagonal => 1e-9,
+            System::PivotsBelowLimit if is_diagonal => 9e-10,
+            System::SmallPivots | System::PivotsAtLimit | System::PivotsBelowLimit => 0.0,
+            System::Whole
+            | System::LargeDiagonal
+            | System::SomeInfinite
+            | System::HalfZeros
+            | System::SomeNan => x,
         }
     }
-    match kind {
-        1 => x,
-        _ => 0.0,
-    }
-}
 
-// Half of them 0.
-fn checkered(r: u64, c: u64, x: f64) -> f64 {
-    if r % 2 == c % 2 {
-        return 0.0;
-    }
-    x
-}
-
-// Huge rows among small ones.
-fn uneven(r: u64, x: f64) -> f64 {
-    if r % 2 == 0 {
-        return x * 1e306;
-    }
-    x / 1048576.0
-}
-
-// One of 16 is infinite, or a NaN.
-fn with_rare(kind: u64, draw: u32, x: f64) -> f64 {
-    if draw / 65536 % 16 == 0 {
-        if kind == 4 {
-            return 1.0 / 0.0;
+    // Row 25 of whole numbers is the right side.
+    pub fn row(self, r: u32, seed: u32) -> [f64; 25] {
+        let mut values = [0.0; 25];
+        for (value, (c, draw)) in values.iter_mut().zip((0..).zip(Draws::new(seed, r))) {
+            *value = self.entry(r, c, draw);
         }
-        return 0.0 / 0.0;
+        values
     }
-    x
-}
 
-// Row r, column c: whole numbers; a large diagonal; nearly one row many times; one row many times; some infinite; half of
-// them 0; huge rows among small ones; some NaN; pivots about 1e-9; pivots of 1e-9; and in a worked case pivots of 9e-10.
-fn entry(kind: u64, r: u64, c: u64, draw: u32) -> f64 {
-    let x = drawn(draw);
-    match kind {
-        1 | 8 | 9 | 10 => on_diagonal(kind, r == c, x),
-        2 => nearly(r, c, x),
-        3 => float_of(c % 5) + 1.0,
-        4 | 7 => with_rare(kind, draw, x),
-        5 => checkered(r, c, x),
-        6 => uneven(r, x),
-        _ => x,
+    pub fn matrix(self, seed: u32) -> [[f64; 25]; 25] {
+        let mut rows = [[0.0; 25]; 25];
+        for (row, r) in rows.iter_mut().zip(0..) {
+            *row = self.row(r, seed);
+        }
+        rows
     }
 }
 
-pub fn row(kind: u64, r: usize, seed: u32) -> [f64; 25] {
-    let mut values = [0.0; 25];
-    let mut draw = start(seed, r as u64);
-    for c in 0..25 {
-        draw = next(draw);
-        values[c] = entry(kind, r as u64, c as u64, draw);
-    }
-    values
-}
+// Any number past the last is a system of whole numbers.
+impl From<u64> for System {
+    ghost from_gives = { λ number system.
+        (number < 11 → slice_get ALL number ≡ Some system) × (11 ≤ number → system ≡ Whole) };
 
-pub fn matrix(kind: u64, seed: u32) -> [[f64; 25]; 25] {
-    let mut rows = [[0.0; 25]; 25];
-    for r in 0..25 {
-        rows[r] = row(kind, r, seed);
+    fn from(number: u64) -> Self {
+        System::ALL
+            .get(number as usize)
+            .copied()
+            .unwrap_or(System::Whole)
     }
-    rows
 }

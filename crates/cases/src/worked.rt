@@ -4,46 +4,88 @@
 // "Width 10, height 1: noise 1,1,−1,−1,1,1,−1,−1,1,1, second frame with 3 signs turned: 4/10, no; with 4 turned: yes."
 // "Width 2 at lag 1: no fit. Lag 4: 7." "Sizes 4,096 and 4,097; sample 255 and 256 at 8 bits; register bits 16 and 17."
 // "Order 0 and 26: 8. Pivot 1e-9 passes."
+ghost use Rattle.std.specs.Prelude.{◌≡◌, ◌↔◌};
+ghost use Rattle.cases.specs.declared.worked.Question.TheVariants.{Read};
+
+use crate::answer::{Answer, Outcome};
 use crate::answers::answer;
-use crate::case::{Answer, Case};
-use crate::lines::{case_at, word_at};
+use crate::call::Call;
+use crate::numbers::Numbers;
 use crate::reads::read;
-use crate::say::say;
-use std::io;
+use std::alloc::{AllocError, Global};
 
-// What is shown of an answer: its refusal; its value; its refusal, 1000 where it is none; the bits that the register drew, or its
-// refusal; its figure.
-fn shown(what: u64, a: Answer) -> u64 {
-    let refusal = a.refusal as u64;
-    match what {
-        1 => refusal,
-        2 => a.value,
-        3 => or_else(refusal, 1000),
-        4 => or_else(refusal, a.value >> 16),
-        _ => a.figure,
+// What is shown of an answer.
+#[derive(Clone, Copy)]
+enum Part {
+    Refusal,
+    Value,
+    // 1000 where it is none.
+    RefusalOr1000,
+    // The bits that the register drew, or its refusal.
+    RefusalOrBits,
+    Figure,
+}
+
+impl Part {
+    fn of(self, answer: Answer) -> u64 {
+        let refusal = u64::from(answer.outcome.refusal);
+        let value = answer.outcome.value;
+        match self {
+            Part::Refusal => refusal,
+            Part::Value => value,
+            Part::RefusalOr1000 if refusal == 0 => 1000,
+            Part::RefusalOrBits if refusal == 0 => value >> 16,
+            Part::RefusalOr1000 | Part::RefusalOrBits => refusal,
+            Part::Figure => answer.figure,
+        }
     }
 }
 
-// A refusal, or the value where there is none.
-fn or_else(refusal: u64, value: u64) -> u64 {
-    if refusal == 0 {
-        return value;
-    }
-    refusal
+// What a worked case asks: a part of a call's answer, or a read.
+#[derive(Clone, Copy)]
+enum Question {
+    Call(Call, Part),
+    Read,
 }
 
-// What the line of a worked case asks: 20, 40, 60, 80 or 100 and a call, what is shown of its answer; 120, a read.
-fn worked(c: Case) -> u64 {
-    if c.answer == 120 {
-        return read(c);
+// 1 to 5; any other shows the figure too.
+impl From<u64> for Part {
+    fn from(number: u64) -> Self {
+        match number {
+            1 => Part::Refusal,
+            2 => Part::Value,
+            3 => Part::RefusalOr1000,
+            4 => Part::RefusalOrBits,
+            _ => Part::Figure,
+        }
     }
-    shown(c.answer / 20, answer(c.answer % 20, c))
 }
 
-// A worked case's line: its name, a colon and its numbers.
-pub fn show(rt: &impl Print, line: &[u8]) -> io::Result<()> {
-    let name = word_at(line, 0, b':');
-    let colon = name.end;
-    say(rt, &line[0..colon], worked(case_at(line, name.next)))?;
-    println!(rt)
+// 20 times the part, and the call; 120 a read.
+impl From<u64> for Question {
+    ghost from_gives = { λ number question. (question ≡ Read) ↔ (number ≡ 120) };
+
+    fn from(number: u64) -> Self {
+        match number {
+            120 => Question::Read,
+            _ => Question::Call(Call::from(number % 20), Part::from(number / 20)),
+        }
+    }
+}
+
+// The figure of a worked case, which asks its question where a recorded call has its value.
+fn worked(alloc: Global, numbers: &mut Numbers<'_>) -> Result<u64, AllocError> {
+    let question = Question::from(Outcome::read(numbers).value);
+    Ok(match question {
+        Question::Call(call, part) => part.of(answer(alloc, call, numbers)?),
+        Question::Read => read(numbers),
+    })
+}
+
+// A worked case's line: its name, a colon and its numbers; one with no colon is a name.
+pub fn show<R: Print + AllocGlobal>(rt: &R, line: &str) -> anyhow::Result<()> {
+    let (name, numbers) = line.split_once(':').unwrap_or((line, ""));
+    let figure = worked(rt.alloc(), &mut Numbers::of(numbers))?;
+    println!(rt; "{name}: {figure}")?;
+    Ok(())
 }

@@ -4,7 +4,7 @@ use Rattle.frame.specs.Planes.{cropped, cropped_frame, geometry_of}
 use Rattle.frame.specs.Calls.{frame_refusal}
 use Rattle.frame.specs.declared.Shape.{Shape}
 use Rattle.frame.specs.declared.view.Component.TheVariants.{Y, CbCr}
-use Rattle.frame.proofs.Refusal.{granted}
+use Rattle.frame.proofs.FirstNo.{granted}
 use Rattle.frame.proofs.Cropped.{cropped-frame-passes}
 use Rattle.float.specs.Reading.{coefficients, marks}
 use Rattle.noise.proofs.Cropped.{seen-cropped, luma-cropped}

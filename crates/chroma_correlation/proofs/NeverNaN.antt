@@ -9,10 +9,11 @@ use Rattle.frame.specs.Planes.{geometry_of}
 use Rattle.frame.specs.Questions.{accepted}
 use Rattle.frame.specs.declared.Shape.{Shape}
 use Rattle.frame.specs.declared.view.Geometry.{Geometry}
-use Rattle.float.specs.Mark.{inside, not_a_number, mark, number}
+use Rattle.float.specs.Mark.{mark, number}
+use Rattle.float.specs.declared.quant.Mark.TheVariants.{Inside, NotANumber}
 use Rattle.float.specs.Reading.{marks}
 use Rattle.float.proofs.Number.{round_number}
-use Rattle.float.proofs.Mark.{number-marked}
+use Rattle.float.proofs.Marks.{number-marked}
 use Rattle.noise.specs.Seen.{Seen, Over, seen}
 use Rattle.noise.specs.Average.{luma_seen}
 use Rattle.noise.proofs.Accepted.{frame-seen}
@@ -36,17 +37,17 @@ module _ (products squares : ℤ) (p : nat_abs products ≤ 2 ^ 53) (s : nat_abs
       ap is_nan (div-at binary64 _ _ _ (nat_abs products) (2 ^ 2) _ (nat_abs squares) (2 ^ 4) (pow_pos 2) (pow_pos 4) (some squares e) (scaled-val binary64 _ _ 2 p (lit≤ tt)) (scaled-val binary64 _ _ 4 s (lit≤ tt)))
       ∙ round_number _ _ _ _
 
-  tap-number : tap_of marks products squares ≡ number not_a_number → ⊥
+  tap-number : tap_of marks products squares ≡ number NotANumber → ⊥
   unfolding tap_of
   tap-number = go (le (of_scaled 4 squares) tiny) _ quotient-number
     where
-      go : (b : Bool) (x : Float) → (b ≡ false → is_nan x ≡ false) → cond b (number inside) (number (mark x)) ≡ number not_a_number → ⊥
+      go : (b : Bool) (x : Float) → (b ≡ false → is_nan x ≡ false) → cond b (number Inside) (number (mark x)) ≡ number NotANumber → ⊥
       go true x n e = omega arith
       go false x n e = number-marked x (n refl) e
 
 -- ---- the answer
 marked : {g : Geometry} {y y-denoised c c-denoised : List ℕ} → Over g → Seen g.luma y y-denoised → Seen g.chroma c c-denoised
-    → corr marks (luma_seen g y y-denoised) (seen g.chroma c c-denoised) ≡ number not_a_number → ⊥
+    → corr marks (luma_seen g y y-denoised) (seen g.chroma c c-denoised) ≡ number NotANumber → ⊥
 marked O L S e = tap-number _ _ (products-small O L S) (squares-small O L S) (tap-is O L S marks ∙ e)
 
 pub never-nan : (s : Shape) (y cb cr y-denoised cb-denoised cr-denoised : List ℕ) → NeverNaN (corr_answer s y cb cr y-denoised cb-denoised cr-denoised)

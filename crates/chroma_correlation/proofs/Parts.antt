@@ -2,6 +2,7 @@
 use Rattle.std.proofs.Common.{◌≡◌, Bool, true, false, cond, eqb, length, refl, ap, ◌∙◌}
 use lib.Ieee.{le}
 use Rattle.laws.specs.Constants.{tiny}
+use Rattle.float.specs.Mark.{number}
 use Rattle.float.specs.Reading.{Reading, coefficients, marks, both}
 use Rattle.float.proofs.Reading.{part}
 use Rattle.float.specs.declared.quant.Quantised.{Quantised}
@@ -23,5 +24,5 @@ module _ (luma : Luma) (chroma : Pair) where
     pub coefficient-is : q.coefficient ≡ corr coefficients luma chroma
     coefficient-is = ap (λ (p : Quantised). p.coefficient) is ∙ part-told both (λ p. p.coefficient)
 
-    pub mark-is : q.mark ≡ corr marks luma chroma
-    mark-is = ap (λ (p : Quantised). p.mark) is ∙ part-told both (λ p. p.mark)
+    pub mark-is : number q.mark ≡ corr marks luma chroma
+    mark-is = ap (λ (p : Quantised). number p.mark) is ∙ part-told both (λ p. number p.mark)

@@ -3,14 +3,25 @@
 
 ghost use Rattle.std.specs.Prelude.{◌≡◌, ◌^◌, ◌≤◌, unsigned_abs};
 ghost use Rattle.float.specs.Reading.{both};
-ghost use Rattle.noise.specs.Seen.{SeenFrame};
+ghost use Rattle.noise.specs.PlanePair.{shown};
+ghost use Rattle.normal.specs.ShownFrame.{luma_in};
 ghost use Rattle.chroma_correlation.specs.Exact.{tap_of};
-ghost use Rattle.chroma_correlation.specs.Answer.{correlations, corr_answer};
+ghost use Rattle.chroma_correlation.specs.Steps.{corr};
+ghost use Rattle.chroma_correlation.specs.Answer.{corr_answer};
+ghost use Rattle.chroma_correlation.specs.Record.{record_of};
 
-use float::{Quantised, UNQUANTISED};
-use frame::{Geometry, Shape};
+use float::{Mark, Quantised, UNQUANTISED};
+use frame::{FramePair, Refusal, Shape};
+use normal::ShownFrame;
 
 // The luma tap of each chroma plane, at lag 0, with its mark.
+#[derive(Clone, Copy)]
+pub struct Correlations {
+    pub cb: Quantised,
+    pub cr: Quantised,
+}
+
+// The answer as C has it: a refusal's number; the coefficients, and their marks.
 #[repr(C)]
 #[derive(Clone, Copy)]
 pub struct ChromaCorr {
@@ -19,6 +30,29 @@ pub struct ChromaCorr {
     pub cr: i32,
     pub cb_mark: u8,
     pub cr_mark: u8,
+}
+
+impl From<Result<Correlations, Refusal>> for ChromaCorr {
+    ghost from_gives = { λ outcome answer. answer ≡ record_of outcome };
+
+    fn from(outcome: Result<Correlations, Refusal>) -> Self {
+        match outcome {
+            Ok(Correlations { cb, cr }) => ChromaCorr {
+                refusal: 0,
+                cb: cb.coefficient,
+                cr: cr.coefficient,
+                cb_mark: cb.mark.into(),
+                cr_mark: cr.mark.into(),
+            },
+            Err(refusal) => ChromaCorr {
+                refusal: refusal.into(),
+                cb: 0,
+                cr: 0,
+                cb_mark: Mark::Inside.into(),
+                cr_mark: Mark::Inside.into(),
+            },
+        }
+    }
 }
 
 // Σ average × noise / Σ average², quantised: from the exact sums in quarters and in sixteenths, each turned into an f64 once.
@@ -35,64 +69,24 @@ fn tap(products: i64, squares: i64) -> Quantised
 }
 
 // The luma taps of Cb and Cr: at lag 0 the only factor is the sample, and the window is the plane.
-fn correlate(
-    y: &[u16],
-    yden: &[u16],
-    cb: &[u16],
-    cbden: &[u16],
-    cr: &[u16],
-    crden: &[u16],
-    geometry: Geometry,
-) -> ChromaCorr
-    requires { SeenFrame geometry y.now yden.now cb.now cbden.now cr.now crden.now }
-    ensures { result ≡ correlations geometry y.now cb.now cr.now yden.now cbden.now crden.now }
+fn correlate(frame: &ShownFrame<'_>) -> Correlations
+    ensures cb { result.cb ≡ corr both (luma_in frame.now) (shown frame.now.cb) }
+    ensures cr { result.cr ≡ corr both (luma_in frame.now) (shown frame.now.cr) }
 {
     let mut cbtaps = [0; 1];
     let mut crtaps = [0; 1];
-    let squares = normal::tap_sums(
-        y,
-        yden,
-        cb,
-        cbden,
-        cr,
-        crden,
-        geometry,
-        0,
-        &mut cbtaps,
-        &mut crtaps,
-    );
-    let blue = tap(cbtaps[0], squares);
-    let red = tap(crtaps[0], squares);
-    ChromaCorr {
-        refusal: 0,
-        cb: blue.coefficient,
-        cr: red.coefficient,
-        cb_mark: blue.mark,
-        cr_mark: red.mark,
+    let squares = normal::tap_sums(frame, 0, &mut cbtaps, &mut crtaps);
+    Correlations {
+        cb: tap(cbtaps[0], squares),
+        cr: tap(crtaps[0], squares),
     }
 }
 
 // The luma taps of Cb and Cr at lag 0, where there are no luma coefficients.
-pub fn fit_chroma_corr(
-    s: Shape,
-    y: &[u16],
-    cb: &[u16],
-    cr: &[u16],
-    yden: &[u16],
-    cbden: &[u16],
-    crden: &[u16],
-) -> ChromaCorr
-    ensures { result ≡ corr_answer s y.now cb.now cr.now yden.now cbden.now crden.now }
+pub fn fit_chroma_corr(s: Shape, frame: &FramePair<'_>) -> Result<Correlations, Refusal>
+    ensures { record_of result ≡ corr_answer s frame.now.source.y.now frame.now.source.cb.now frame.now.source.cr.now frame.now.denoised.y.now frame.now.denoised.cb.now frame.now.denoised.cr.now }
 {
-    let n = frame::frame_refusal(s, y, cb, cr, yden, cbden, crden);
-    if n != 0 {
-        return ChromaCorr {
-            refusal: n,
-            cb: 0,
-            cr: 0,
-            cb_mark: float::INSIDE,
-            cr_mark: float::INSIDE,
-        };
-    }
-    correlate(y, yden, cb, cbden, cr, crden, frame::geometry_of(s))
+    frame::ask_frame(s, frame)?;
+    let shown = normal::show_frame(frame, frame::geometry_of(s));
+    Ok(correlate(&shown))
 }

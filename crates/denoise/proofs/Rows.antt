@@ -1,4 +1,4 @@
--- Rows of a plane: where they lie, how long they are, what they hold; and a destination that is filled row by row. Assumes nothing.
+-- Rows of a plane: where they lie, what they hold; and a destination that is filled row by row. Assumes nothing.
 use mathlib.Core.Path.{◌≡◌, refl, ◌∙◌}
 use mathlib.Core.List.{List, ◌++◌}
 use Prim.Native.Nat.{ℕ, ◌+◌, ◌*◌, ◌/◌, ◌%◌, ◌<◌, ◌≤◌}
@@ -6,8 +6,7 @@ use native.Mathlib.Nat.{mul_comm, zero-mul, suc-mul, mul-le-mul_right}
 use native.Mathlib.Numerals.{add-one}
 use native.Mathlib.Omega.{arith}
 use lib.Arith.{digits_div, digits_mod}
-use lib.ListN.{length, get_or, take, length-drop}
-use lib.Seq.{length-take-le}
+use lib.ListN.{length, get_or, take}
 use Rattle.laws.specs.Table.{tabulate}
 use Rattle.laws.proofs.Table.{tabulate-same, tabulate-at, tabulate-whole, tabulate-ends}
 use Rattle.laws.proofs.Parts.{get_d_part, tabulate-part}
@@ -16,9 +15,6 @@ use Rattle.denoise.specs.Line.{row_of}
 
 pub row_within : (w h r : ℕ) → r < h → r * w + w ≤ w * h
 row_within w h r l = rw (← suc-mul r w, mul_comm w h) (mul-le-mul_right w l)
-
-pub row-length : (s : List ℕ) (w r : ℕ) → r * w + w ≤ length s → length (row_of s w r) ≡ w
-row-length s w r l = length-take-le w _ (rw length-drop (omega arith))
 
 pub row_at : (s : List ℕ) (w r c : ℕ) → c < w → get_or (row_of s w r) c 0 ≡ sample_at s w r c
 row_at s w r c l = get_d_part s (r * w) w c 0 l

@@ -1,19 +1,16 @@
 -- The nine weights are 1 2 1 down the columns and then 1 2 1 along the line of the sums; so the means along the line about a row are that row of the result.
 -- Assumes nothing.
-use mathlib.Core.Path.{◌≡◌, refl}
+use mathlib.Core.Path.{◌≡◌}
 use mathlib.Core.List.{List, [], ◌∷◌}
-use Prim.Native.Nat.{ℕ, ◌+◌, ◌-◌, ◌*◌, ◌^◌, ◌<◌, ◌≤◌, min}
+use Prim.Native.Nat.{ℕ, ◌+◌, ◌-◌, ◌<◌, min}
 use native.Mathlib.Omega.{arith}
 use lib.ListN.{get_or}
 use Rattle.laws.specs.Table.{tabulate}
-use Rattle.laws.proofs.Table.{get_d_tabulate, tabulate-same}
+use Rattle.laws.proofs.Table.{tabulate-same}
 use Rattle.denoise.specs.Denoise.{sample_at, before, after, nine, weights, weighed, smoothed}
-use Rattle.denoise.specs.Line.{weigh, column_sum, column_sums, line_mean, row_of}
+use Rattle.denoise.specs.Line.{weigh, column_sums, line_mean, row_of}
 use Rattle.denoise.proofs.Rows.{row_at}
-
-sums_at : (up mid down : List ℕ) (n i : ℕ) → i < n + 2 → get_or (column_sums up mid down n) i 0 ≡ column_sum up mid down (min (i - 1) (n - 1))
-unfolding column_sums
-sums_at up mid down n i l = get_d_tabulate (n + 2) (λ i. column_sum up mid down (min (i - 1) (n - 1))) i 0 l
+use Rattle.denoise.proofs.Sums.{get_or-column_sums}
 
 -- the nine weights are 1 2 1 down the columns, then 1 2 1 along the sums
 pub separable : (a b c d e f g h i : ℕ) → weigh (weigh a d g) (weigh b e h) (weigh c f i) ≡ weighed weights (a ∷ b ∷ c ∷ d ∷ e ∷ f ∷ g ∷ h ∷ i ∷ [])
@@ -29,12 +26,7 @@ module _ (s : List ℕ) (w h r : ℕ) (some : 0 < w) where
   column c = weigh (sample_at s w (before r) c) (sample_at s w r c) (sample_at s w (after h r) c)
 
   sums-about-at : (i c : ℕ) → i < w + 2 → min (i - 1) (w - 1) ≡ c → c < w → get_or (sums_about s w h r) i 0 ≡ column c
-  sums-about-at i c l e k = rw (sums_at _ _ _ w i l, e, row_at s w (before r) c k, row_at s w r c k, row_at s w (after h r) c k)
-
-  pub sums-low : ((i : ℕ) → get_or s i 0 < 2 ^ 16) → (i : ℕ) → i < w + 2 → get_or (sums_about s w h r) i 0 ≤ 4 * 65535
-  sums-low low i l =
-      let c = min (i - 1) (w - 1) in
-      rw (sums-about-at i c l refl (omega arith)) (omega (arith, low (before r * w + c), low (r * w + c), low (after h r * w + c)))
+  sums-about-at i c l e k = rw (get_or-column_sums _ _ _ w i l, e, row_at s w (before r) c k, row_at s w r c k, row_at s w (after h r) c k)
 
   mean-smooth : (c : ℕ) → c < w → line_mean (sums_about s w h r) c ≡ smoothed s w h r c
   unfolding line_mean smoothed nine

@@ -1,5 +1,6 @@
 -- "A refused call returns its number .. ; destinations .. remain." What a call leaves: its answer, and what its destinations hold.
 use Rattle.std.specs.Prelude.{List, ℕ, length}
+use Rattle.std.specs.Borrow.{MutBor}
 use Rattle.frame.specs.declared.Shape.{Shape}
 use Rattle.frame.specs.Size.{chroma_width, chroma_height}
 use Rattle.frame.specs.Questions.{accepted}
@@ -18,6 +19,10 @@ pub record Frame : Type 0 where
 
 abbrev pub planes : List ℕ → List ℕ → List ℕ → Frame
 planes y cb cr = record { y = y; cb = cb; cr = cr }
+
+-- the planes behind three destinations, as a call leaves them
+abbrev pub left : {A : Type 0} → MutBor (List ℕ) × (MutBor (List ℕ) × (MutBor (List ℕ) × A)) → Frame
+left d = planes d.0.now d.1.0.now d.1.1.0.now
 
 -- each plane denoised at its own size
 unfoldable pub denoised_frame : Shape → Frame → Frame

@@ -2,45 +2,51 @@
 #![tactic(auto)]
 
 ghost use Rattle.std.specs.Prelude.{◌≡◌};
-ghost use Rattle.denoise.specs.Calls.{plane_outcome, planes, frame_outcome};
+ghost use Rattle.frame.specs.Refusal.{number_of};
+ghost use Rattle.denoise.specs.Calls.{plane_outcome, planes, left, frame_outcome};
 
-use frame::{Component, Shape};
+use frame::{Component, Planes, Refusal, Shape};
 
 mod line;
 mod plane;
 
+use plane::Plane;
+
 // Each sample of `dst`: (1 2 1 / 2 4 2 / 1 2 1 over the 3×3 neighbours in `src` + 8) >> 4.
-pub fn denoise_plane(src: &[u16], dst: &mut [u16], width: usize, height: usize) -> u32
-    ensures { (result, dst.new) ≡ plane_outcome src.now dst.old width height }
+// Samples and size come apart, since the questions ask whether they fit.
+#[tactic(auto, unfolding(crate::specs::Calls::plane_outcome, frame::specs::Calls::plane_refusal, frame::specs::Calls::plane_numbers, frame::specs::Questions::each))]
+pub fn denoise_plane(
+    src: &[u16],
+    dst: &mut [u16],
+    width: usize,
+    height: usize,
+) -> Result<(), Refusal>
+    ensures { (number_of result, dst.new) ≡ plane_outcome src.now dst.old width height }
 {
-    let n = frame::plane_refusal(width, height, src.len(), dst.len());
-    if n != 0 {
-        return n;
-    }
-    plane::smooth_plane(src, dst, width, height);
-    0
+    frame::ask_plane(width, height, src.len(), dst.len())?;
+    Plane::new(src, width, height).smooth(dst);
+    Ok(())
+}
+
+// The planes of a frame that are written.
+#[derive(Drop)]
+pub struct PlanesMut<'a> {
+    pub y: &'a mut [u16],
+    pub cb: &'a mut [u16],
+    pub cr: &'a mut [u16],
 }
 
 // Each plane of a frame denoised, at its own size.
-pub fn denoise_frame(
-    s: Shape,
-    y: &[u16],
-    cb: &[u16],
-    cr: &[u16],
-    yout: &mut [u16],
-    cbout: &mut [u16],
-    crout: &mut [u16],
-) -> u32
-    ensures { (result, planes yout.new cbout.new crout.new) ≡ frame_outcome s (planes y.now cb.now cr.now) (planes yout.old cbout.old crout.old) }
+#[tactic(auto, using(crate::proofs::Calls::accepted_number), unfolding(crate::specs::Calls::frame_outcome, crate::specs::Calls::denoised_frame))]
+pub fn denoise_frame(s: Shape, source: &Planes<'_>, into: PlanesMut<'_>) -> Result<(), Refusal>
+    ensures { (number_of result, left into.exit) ≡ frame_outcome s (planes source.now.y.now source.now.cb.now source.now.cr.now) (planes into.entry.y.now into.entry.cb.now into.entry.cr.now) }
 {
-    let refusal = frame::denoise_frame_refusal(s, y, cb, cr, yout.len(), cbout.len(), crout.len());
-    if refusal != 0 {
-        return refusal;
-    }
+    let PlanesMut { y, cb, cr } = into;
+    frame::ask_denoise_frame(s, source, y.len(), cb.len(), cr.len())?;
     let width = s.width_of(Component::CbCr);
     let height = s.height_of(Component::CbCr);
-    plane::smooth_plane(y, yout, s.width, s.height);
-    plane::smooth_plane(cb, cbout, width, height);
-    plane::smooth_plane(cr, crout, width, height);
-    0
+    Plane::new(source.y, s.width, s.height).smooth(y);
+    Plane::new(source.cb, width, height).smooth(cb);
+    Plane::new(source.cr, width, height).smooth(cr);
+    Ok(())
 }

@@ -3,82 +3,85 @@ ghost use Rattle.std.specs.Prelude.{◌≡◌, ◌+◌, ◌*◌, ◌<◌, ◌≤
 ghost use Rattle.laws.specs.Limits.{side_limit};
 ghost use Rattle.laws.specs.Table.{tabulate};
 ghost use Rattle.denoise.specs.Line.{row_of};
-ghost use Rattle.denoise.specs.Denoise.{before, after, smoothed, denoised};
+ghost use Rattle.denoise.specs.Denoise.{smoothed, denoised};
 
+use crate::line::{Rows, line_means};
 use frame::SIDE_LIMIT;
 
-// Place i - 1, held at the first.
-fn place_before(i: usize) -> usize
-    ensures { result ≡ before i }
-{
-    if i == 0 { 0 } else { i - 1 }
-}
-
-// Place i + 1 of n, held at the last.
-fn place_after(n: usize, i: usize) -> usize
-    requires { i < n }
-    ensures { result ≡ after n i }
-{
-    if i + 1 < n { i + 1 } else { i }
-}
-
-// The samples of a row.
-fn row_of(src: &[u16], width: usize, row: usize) -> &[u16]
-    requires { row * width + width ≤ length src.now }
-    ensures { (result.now ≡ row_of src.now width row) × (length result.now ≡ width) }
-{
-    let a = row * width;
-    let e = a + width;
-    &src[a..e]
-}
-
-// A row of the result, with a line to work in.
-fn smooth_row(
-    src: &[u16],
+// A plane: its samples in row order, and its size.
+#[derive(Clone, Copy)]
+pub struct Plane<'a> {
+    samples: &'a [u16],
     width: usize,
     height: usize,
-    row: usize,
-    line: &mut [u32],
-    out: &mut [u16],
-)
-    requires { (length src.now ≡ width * height) × (row < height) × (0 < width) × (length line.old ≡ width + 2) × (length out.old ≡ width) }
-    ensures { out.new ≡ tabulate width (smoothed src.now width height row) }
-{
-    let up = row_of(src, width, place_before(row));
-    let mid = row_of(src, width, row);
-    let down = row_of(src, width, place_after(height, row));
-    crate::line::column_sums(up, mid, down, line);
-    crate::line::line_means(line, out);
+    ghost narrow: { width ≤ side_limit },
+    ghost filled: { length samples.now ≡ width * height },
 }
 
-// Every row of the result, with a line to work in.
-fn smooth_rows(src: &[u16], width: usize, height: usize, line: &mut [u32], dst: &mut [u16])
-    requires { (length src.now ≡ width * height) × (0 < width) × (length line.old ≡ width + 2) × (length dst.old ≡ width * height) }
-    ensures { dst.new ≡ denoised src.now width height }
-{
-    for row in 0..height {
-        let a = row * width;
-        let e = a + width;
-        smooth_row(src, width, height, row, line, &mut dst[a..e]);
+impl<'a> Plane<'a> {
+    pub fn new(samples: &'a [u16], width: usize, height: usize) -> Plane<'a>
+        requires narrow { width ≤ side_limit }
+        requires filled { length samples.now ≡ width * height }
+        ensures { (result.samples.now ≡ samples.now) × (result.width ≡ width) × (result.height ≡ height) }
+    {
+        Plane {
+            samples,
+            width,
+            height,
+        }
+    }
+
+    // The samples of a row.
+    fn row(&self, row: usize) -> &'a [u16]
+        requires { row * self.now.width + self.now.width ≤ length self.now.samples.now }
+        ensures { (result.now ≡ row_of self.now.samples.now self.now.width row) × (length result.now ≡ self.now.width) }
+    {
+        let a = row * self.width;
+        let e = a + self.width;
+        &self.samples[a..e]
+    }
+
+    // A row of the result, with a line to work in.
+    fn smooth_row(&self, row: usize, line: &mut [u32], out: &mut [u16])
+        requires { (row < self.now.height) × (0 < self.now.width) × (length line.old ≡ self.now.width + 2) × (length out.old ≡ self.now.width) }
+        ensures { out.new ≡ tabulate self.now.width (smoothed self.now.samples.now self.now.width self.now.height row) }
+    {
+        let rows = Rows {
+            up: self.row(row.saturating_sub(1)),
+            mid: self.row(row),
+            down: self.row((row + 1).min(self.height - 1)),
+        };
+        rows.column_sums(line);
+        line_means(line, out);
+    }
+
+    // Every row of the result, with a line to work in.
+    fn smooth_rows(&self, line: &mut [u32], dst: &mut [u16])
+        requires { (0 < self.now.width) × (length line.old ≡ self.now.width + 2) × (length dst.old ≡ self.now.width * self.now.height) }
+        ensures { dst.new ≡ denoised self.now.samples.now self.now.width self.now.height }
+    {
+        // By index: after `chunks_exact_mut` a proof knows no sample that was written.
+        for row in 0..self.height {
+            let a = row * self.width;
+            let e = a + self.width;
+            self.smooth_row(row, line, &mut dst[a..e]);
+        }
+    }
+
+    // The denoised plane.
+    #[tactic(auto, using(crate::proofs::Rows::rows_none))]
+    pub fn smooth(&self, dst: &mut [u16])
+        requires { length dst.old ≡ self.now.width * self.now.height }
+        ensures { dst.new ≡ denoised self.now.samples.now self.now.width self.now.height }
+    {
+        if self.width == 0 {
+            return;
+        }
+        let mut line = [0; LINE];
+        let n = self.width + 2;
+        self.smooth_rows(&mut line[..n], dst);
     }
 }
 
 // A line for the widest row, with one column more at each end.
 const LINE: usize = SIDE_LIMIT + 2;
-
-fn blank_line() -> [u32; LINE] {
-    [0; LINE]
-}
-
-// The denoised plane.
-pub fn smooth_plane(src: &[u16], dst: &mut [u16], width: usize, height: usize)
-    requires { (width ≤ side_limit) × (length src.now ≡ width * height) × (length dst.old ≡ width * height) }
-    ensures { dst.new ≡ denoised src.now width height }
-{
-    if width == 0 {
-        return;
-    }
-    let mut line = blank_line();
-    let n = width + 2;
-    smooth_rows(src, width, height, &mut line[..n], dst);
-}

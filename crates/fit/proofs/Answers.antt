@@ -1,21 +1,17 @@
 -- The answer of the call, from the number of its questions, luma's coefficients and chroma's. Assumes nothing.
-use Rattle.std.proofs.Common.{◌≡◌, ℕ, Bool, true, false, List, ℤ, sym, ap, ◌∙◌}
+use Rattle.std.proofs.Common.{◌≡◌, ℕ, Bool, true, false, List, ℤ, Some, Ok, sym, ap, ◌∙◌}
 use Rattle.float.specs.Reading.{coefficients, marks, both}
 use Rattle.float.specs.declared.quant.Quantised.{Quantised}
 use Rattle.frame.specs.Calls.{fit_refusal}
-use Rattle.frame.specs.Planes.{geometry_of}
-use Rattle.frame.specs.declared.view.Geometry.{Geometry}
 use Rattle.frame.specs.declared.Shape.{Shape}
-use Rattle.frame.proofs.Refusal as refusal
+use Rattle.frame.proofs.FirstNo as refusal
 use Rattle.noise.specs.Noise.{Pair}
-use Rattle.noise.specs.Average.{Luma, luma_seen}
-use Rattle.noise.specs.Seen.{seen}
+use Rattle.noise.specs.Average.{Luma}
 use Rattle.positions.specs.Counts.{neighbours}
-use Rattle.fit.specs.Steps.{luma_fit, chroma_fit}
+use Rattle.fit.specs.Steps.{chroma_fit}
 use Rattle.fit.specs.Answer.{all_zero, luma_first, unfit, found_of, fit_of, luma_of, plane_of, fit_answer}
-use Rattle.fit.specs.Apart.{Apart}
-use Rattle.fit.specs.declared.Fit.{Fit}
-use Rattle.fit.proofs.Readings.{luma-apart, chroma-apart}
+use Rattle.fit.specs.Record.{coefficients_in, marks_in, record_of}
+use Rattle.fit.proofs.Readings.{luma-read, chroma-read}
 
 -- what is found
 module _ (luma : Luma) (cb cr : Pair) (lag : ℕ) (x : List ℤ) (e : x ≡ luma_first coefficients luma lag) where
@@ -27,44 +23,39 @@ module _ (luma : Luma) (cb cr : Pair) (lag : ℕ) (x : List ℤ) (e : x ≡ luma
   unfolding fit_of
   fitted t = rw (← e, t)
 
-module _ (s : Shape) (y cb cr y-denoised cb-denoised cr-denoised : List ℕ) (lag n : ℕ) (asked : n ≡ fit_refusal s y cb cr y-denoised cb-denoised cr-denoised lag) where
-  pub refused : (n ≡ 0 → ⊥) → unfit n ≡ fit_answer s y cb cr y-denoised cb-denoised cr-denoised lag
+module _ (s : Shape) (y cb cr y-denoised cb-denoised cr-denoised : List ℕ) (lag : ℕ) where
+  pub refused : (n : ℕ) → n ≡ fit_refusal s y cb cr y-denoised cb-denoised cr-denoised lag → (n ≡ 0 → ⊥) → unfit n ≡ fit_answer s y cb cr y-denoised cb-denoised cr-denoised lag
   unfolding fit_answer
-  refused z = rw (← asked) (sym (refusal.refused n _ _ z))
+  refused n asked z = rw (← asked) (sym (refusal.refused n _ _ z))
 
-  pub accepted-is : n ≡ 0 → fit_of (luma_of s y y-denoised) (plane_of s cb cb-denoised) (plane_of s cr cr-denoised) lag ≡ fit_answer s y cb cr y-denoised cb-denoised cr-denoised lag
-  unfolding fit_answer
-  accepted-is z = sym (refusal.granted (fit_refusal s y cb cr y-denoised cb-denoised cr-denoised lag) _ _ (sym asked ∙ z))
+  module _ (asked : 0 ≡ fit_refusal s y cb cr y-denoised cb-denoised cr-denoised lag) where
+    pub accepted-is : fit_of (luma_of s y y-denoised) (plane_of s cb cb-denoised) (plane_of s cr cr-denoised) lag ≡ fit_answer s y cb cr y-denoised cb-denoised cr-denoised lag
+    unfolding fit_answer
+    accepted-is = sym (refusal.granted (fit_refusal s y cb cr y-denoised cb-denoised cr-denoised lag) _ _ (sym asked))
 
-  -- as the code comes to it: what it sees, luma's list of both and its first ones apart, how many there are, and whether all are 0
-  module _ (z : n ≡ 0) (g : Geometry) (seen-is : g ≡ geometry_of s) (count : ℕ) (counted : count ≡ neighbours lag)
-      (all : List Quantised) (solved : all ≡ luma_fit both (seen g.luma y y-denoised) lag) (x : List ℤ) (x-marks : List ℕ) (parted : Apart all x x-marks 24)
-      (b : Bool) (tested : b ≡ all_zero x count) where
-    abbrev luma : Luma
-    luma = luma_of s y y-denoised
+    -- as the code comes to it: the luma that it sees, luma's first coefficients and marks, how many there are, and whether all are 0
+    module _ (luma : Luma) (luma-is : luma ≡ luma_of s y y-denoised) (count : ℕ) (counted : count ≡ neighbours lag)
+        (first : List Quantised) (solved : first ≡ luma_first both luma lag) (b : Bool) (tested : b ≡ all_zero (coefficients_in first) count) where
+      read : (coefficients_in first ≡ luma_first coefficients (luma_of s y y-denoised) lag) × (marks_in first ≡ luma_first marks (luma_of s y y-denoised) lag)
+      read = luma-read (luma_of s y y-denoised).plane lag first (solved ∙ ap (λ (l : Luma). luma_first both l lag) luma-is)
 
-    first : (x ≡ luma_first coefficients luma lag) × (x-marks ≡ luma_first marks luma lag)
-    first = luma-apart all x x-marks luma.plane lag (solved ∙ ap (λ (h : Geometry). luma_fit both (seen h.luma y y-denoised) lag) seen-is) parted
+      test : all_zero (coefficients_in first) (neighbours lag) ≡ b
+      test = ap (all_zero (coefficients_in first)) (sym counted) ∙ sym tested
 
-    test : all_zero x (neighbours lag) ≡ b
-    test = ap (all_zero x) (sym counted) ∙ sym tested
+      pub none : b ≡ true → unfit 0 ≡ fit_answer s y cb cr y-denoised cb-denoised cr-denoised lag
+      none t = no-fit (luma_of s y y-denoised) (plane_of s cb cb-denoised) (plane_of s cr cr-denoised) lag (coefficients_in first) read.0 (test ∙ t) ∙ accepted-is
 
-    pub none : b ≡ true → unfit 0 ≡ fit_answer s y cb cr y-denoised cb-denoised cr-denoised lag
-    none t = no-fit luma (plane_of s cb cb-denoised) (plane_of s cr cr-denoised) lag x first.0 (test ∙ t) ∙ accepted-is z
+      -- a chroma plane's
+      chroma : (plane seen : Pair) → plane ≡ seen → (x : List Quantised) → x ≡ chroma_fit both luma plane lag
+          → (coefficients_in x ≡ chroma_fit coefficients (luma_of s y y-denoised) seen lag) × (marks_in x ≡ chroma_fit marks (luma_of s y y-denoised) seen lag)
+      chroma plane seen p x e = chroma-read (luma_of s y y-denoised) seen lag x (e ∙ (λ t. chroma_fit both (luma-is t) (p t) lag))
 
-    -- a chroma plane's list of both, apart
-    chroma : (c c-denoised : List ℕ) (r : List Quantised) → r ≡ chroma_fit both (luma_seen g y y-denoised) (seen g.chroma c c-denoised) lag
-        → (v : List ℤ) (w : List ℕ) → Apart r v w 25 → (v ≡ chroma_fit coefficients luma (plane_of s c c-denoised) lag) × (w ≡ chroma_fit marks luma (plane_of s c c-denoised) lag)
-    chroma c c-denoised r e v w a =
-        chroma-apart r v w luma (plane_of s c c-denoised) lag (e ∙ ap (λ (h : Geometry). chroma_fit both (luma_seen h y y-denoised) (seen h.chroma c c-denoised) lag) seen-is) a
-
-    pub some : b ≡ false
-        → (blue red : List Quantised) → blue ≡ chroma_fit both (luma_seen g y y-denoised) (seen g.chroma cb cb-denoised) lag → red ≡ chroma_fit both (luma_seen g y y-denoised) (seen g.chroma cr cr-denoised) lag
-        → (v : List ℤ) (w : List ℕ) → Apart blue v w 25 → (v' : List ℤ) (w' : List ℕ) → Apart red v' w' 25
-        → ◌≡◌ {A = Fit} (record { refusal = 0; found = true; count = count; luma = x; cb = v; cr = v'; luma_marks = x-marks; cb_marks = w; cr_marks = w' }) (fit_answer s y cb cr y-denoised cb-denoised cr-denoised lag)
-    some t blue red p q v w a v' w' a' =
-        let u = chroma cb cb-denoised blue p v w a in
-        let k = chroma cr cr-denoised red q v' w' a' in
-        (λ i. record { refusal = 0; found = true; count = counted i; luma = first.0 i; cb = u.0 i; cr = k.0 i; luma_marks = first.1 i; cb_marks = u.1 i; cr_marks = k.1 i })
-        ∙ fitted luma (plane_of s cb cb-denoised) (plane_of s cr cr-denoised) lag x first.0 (test ∙ t)
-        ∙ accepted-is z
+      pub some : b ≡ false → (blue red : Pair) → blue ≡ plane_of s cb cb-denoised → red ≡ plane_of s cr cr-denoised
+          → (v w : List Quantised) → v ≡ chroma_fit both luma blue lag → w ≡ chroma_fit both luma red lag
+          → record_of (Ok (Some (record { count = count; luma = first; cb = v; cr = w }))) ≡ fit_answer s y cb cr y-denoised cb-denoised cr-denoised lag
+      some t blue red p q v w d e =
+          let x = chroma blue (plane_of s cb cb-denoised) p v d in
+          let z = chroma red (plane_of s cr cr-denoised) q w e in
+          (λ i. record { refusal = 0; found = true; count = counted i; luma = read.0 i; cb = x.0 i; cr = z.0 i; luma_marks = read.1 i; cb_marks = x.1 i; cr_marks = z.1 i })
+          ∙ fitted (luma_of s y y-denoised) (plane_of s cb cb-denoised) (plane_of s cr cr-denoised) lag (coefficients_in first) read.0 (test ∙ t)
+          ∙ accepted-is

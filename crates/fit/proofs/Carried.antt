@@ -1,5 +1,5 @@
 -- "The luma fit, the chroma fit .. carry this for each coefficient": where there is a fit, and of chroma where there is a solution, coefficient i and mark i are those of value i of the solution. Assumes nothing.
-use Rattle.std.proofs.Common.{◌≡◌, ℕ, ◌*◌, ◌<◌, Bool, true, false, cond, List, get_or, sym, refl, ap, ◌∙◌, true≢false, lt_of_lt_of_le, arith, leb-false, leb-true}
+use Rattle.std.proofs.Common.{◌≡◌, ℕ, ◌*◌, ◌<◌, ◌≤◌, Bool, true, false, cond, List, get_or, sym, refl, ap, ◌∙◌, true≢false, lt_of_lt_of_le, arith, leb-false, leb-true}
 use lib.Ieee.{le}
 use Rattle.laws.specs.Scaled.{plus_zero}
 use Rattle.float.specs.Reading.{Reading, coefficients, marks}
@@ -22,7 +22,7 @@ use Rattle.fit.proofs.Answers.{accepted-is}
 use Rattle.fit.proofs.Energy.{flat-still}
 use Rattle.fit.proofs.NoFit.{limited, bounded, no-fit-if}
 use Rattle.fit.proofs.Places.{quantised-at, first-at}
-use Rattle.fit.proofs.Rooms.{factors-few}
+use Rattle.positions.proofs.Counts.{neighbours-le}
 use Rattle.fit.proofs.LumaSteps as luma-steps
 use Rattle.fit.proofs.ChromaSteps as chroma-steps
 
@@ -49,7 +49,7 @@ module _ (s : Shape) (y cb cr y-denoised cb-denoised cr-denoised : List ℕ) (la
   answer-is : answer ≡ found_of luma (plane_of s cb cb-denoised) (plane_of s cr cr-denoised) lag
   unfolding fit_of
   answer-is =
-      let e = accepted-is s y cb cr y-denoised cb-denoised cr-denoised lag _ refl passed in
+      let e = accepted-is s y cb cr y-denoised cb-denoised cr-denoised lag (sym passed) in
       sym e ∙ picked (all_zero (luma_first coefficients luma lag) (neighbours lag)) _ (ap (λ (f : Fit). f.found) e ∙ found)
 
   -- luma
@@ -66,7 +66,7 @@ module _ (s : Shape) (y cb cr y-denoised cb-denoised cr-denoised : List ℕ) (la
       let B = bounded s y cb cr y-denoised cb-denoised cr-denoised lag passed wide high in
       let d = not-true (le (energy_f p lag) plus_zero) (λ t. some_fit (still (flat-still p lag S B t))) in
       let e = not-false (luma_solved p lag).found (λ t. some_fit (unsolved t)) in
-      luma-steps.tested R p lag (λ z. some_fit (lag_zero z)) wide high _ refl d ∙ rw e
+      luma-steps.tested R p lag (λ z. some_fit (lag_zero z)) (luma-steps.not-small p lag wide high) _ refl d ∙ rw e
 
   luma-at : {A : Type 0} (R : Reading A) (i : ℕ) → i < neighbours lag → get_or (luma_first R luma lag) i R.unquantised ≡ R.of (value (luma_solved luma.plane lag).solution.values i)
   luma-at R i l =
@@ -96,7 +96,7 @@ module _ (s : Shape) (y cb cr y-denoised cb-denoised cr-denoised : List ℕ) (la
 
     each : {A : Type 0} (R : Reading A) (i : ℕ) → i < factors lag → get_or (chroma_fit R luma plane lag) i R.unquantised ≡ R.of (value r.solution.values i)
     each R i l =
-        let few = factors-few (fit-call s y cb cr y-denoised cb-denoised cr-denoised lag passed).lag-known in
+        let few : factors lag ≤ 25 = omega (arith, neighbours-le (fit-call s y cb cr y-denoised cb-denoised cr-denoised lag passed).lag-known) in
         ap (λ (x : List _). get_or x i R.unquantised) (chroma-solved R) ∙ quantised-at R r.solution.values i (lt_of_lt_of_le l few)
 
     carried : Carried (chroma_fit coefficients luma plane lag) (chroma_fit marks luma plane lag) r (factors lag)

@@ -1,5 +1,5 @@
 -- The equations from exact sums: what each test of the code makes of the definitions. Assumes nothing.
-use Rattle.std.proofs.Common.{◌≡◌, ℕ, ◌<◌, ◌≤◌, ℤ, le-ltb, lt-ltb, le-leb}
+use Rattle.std.proofs.Common.{◌≡◌, ℕ, ◌<◌, ◌≤◌, min, max, Bool, true, false, cond, leb, ℤ, refl, arith, le-ltb, lt-ltb, le-leb, leb-true, leb-false}
 use lib.Ieee.{Float, binary64, div, of_int}
 use borrow.Author.Tests.{lt-leb}
 use Rattle.laws.specs.Constants.{four}
@@ -32,22 +32,31 @@ module _ (entries : ℕ → ℕ → ℤ) (taps : ℕ → ℤ) (lag i : ℕ) (x :
 
 -- ---- the used part
 module _ (sum : ℕ → ℕ → Float) (p i j : ℕ) where
-  pub row-unused : p ≤ i → plus_zero ≡ cell_of sum p i j
+  pub unused : p ≤ max i j → plus_zero ≡ cell_of sum p i j
   unfolding cell_of
-  row-unused h = rw (le-leb p i h)
+  unused h = go (leb p i) (leb p j) refl refl
+    where
+      go : (a b : Bool) → leb p i ≡ a → leb p j ≡ b → plus_zero ≡ cond a plus_zero (cond b plus_zero (cond (leb i j) (sum i j) (sum j i)))
+      go true b e f = refl
+      go false true e f = refl
+      go false false e f = absurd (omega (arith, leb-false p i e, leb-false p j f))
 
-  module _ (h : i < p) where
-    pub column-unused : p ≤ j → plus_zero ≡ cell_of sum p i j
-    unfolding cell_of
-    column-unused k = rw (lt-leb p i h, le-leb p j k)
-
-    pub upper : j < p → i ≤ j → {x : Float} → x ≡ sum i j → x ≡ cell_of sum p i j
-    unfolding cell_of
-    upper k l e = rw (lt-leb p i h, lt-leb p j k, le-leb i j l) e
-
-    pub lower : j < p → j < i → {x : Float} → x ≡ sum j i → x ≡ cell_of sum p i j
-    unfolding cell_of
-    lower k l e = rw (lt-leb p i h, lt-leb p j k, lt-leb i j l) e
+  -- the lower half is the upper's
+  pub used : max i j < p → {x : Float} → x ≡ sum (min i j) (max i j) → x ≡ cell_of sum p i j
+  unfolding cell_of
+  used h {x} e = let k : i < p = omega arith in let l : j < p = omega arith in rw (lt-leb p i k, lt-leb p j l) (go (leb i j) refl)
+    where
+      go : (a : Bool) → leb i j ≡ a → x ≡ cond a (sum i j) (sum j i)
+      go true f =
+          let m : i ≤ j = leb-true i j f in
+          let u : min i j ≡ i = omega arith in
+          let v : max i j ≡ j = omega arith in
+          rw (u, v) at e
+      go false f =
+          let m : j < i = leb-false i j f in
+          let u : min i j ≡ j = omega arith in
+          let v : max i j ≡ i = omega arith in
+          rw (u, v) at e
 
 module _ (sum : ℕ → Float) (p i : ℕ) where
   pub value-unused : p ≤ i → plus_zero ≡ value_of sum p i

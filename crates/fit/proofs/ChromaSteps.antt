@@ -1,5 +1,6 @@
 -- The chroma fits, from the tests that their code makes. Assumes nothing.
-use Rattle.std.proofs.Common.{◌≡◌, ℕ, ◌*◌, ◌^◌, ◌<◌, ◌≤◌, Bool, true, false, ◌||◌, eqb, leb, List, length, ℤ, nat_abs, sym, refl, ap, ◌∙◌, le_trans, lt_of_le_of_lt, le_of_lt, mul-pos, arith, lit<, lit≤, w64, to_z, of_z, ne_eqb, le-leb}
+use Rattle.std.proofs.Common.{◌≡◌, ℕ, ◌*◌, ◌^◌, ◌<◌, ◌≤◌, Bool, true, false, ◌||◌, eqb, leb, List, length, ℤ, nat_abs, sym, refl, ap, ◌∙◌, le_trans, lt_of_le_of_lt, le_of_lt, mul-pos, arith, lit<, lit≤, w64, to_z, of_z, ne_eqb, le-leb, leb-false, true≢false}
+use mathlib.Core.Bool.{or-true}
 use lib.Ieee.{Float, binary64, div, of_int}
 use mir.ValLaws.{to_z-of_z}
 use borrow.Author.Tests.{lt-leb}
@@ -9,7 +10,6 @@ use Rattle.laws.specs.Limits.{plane_limit, sample_limit}
 use Rattle.laws.specs.Scaled.{of_scaled}
 use Rattle.laws.specs.Table.{tabulate}
 use Rattle.laws.proofs.Is.{sfits}
-use Rattle.laws.proofs.Table.{length-tabulate}
 use Rattle.float.specs.Reading.{Reading}
 use Rattle.frame.specs.declared.view.Geometry.{Geometry}
 use Rattle.frame.proofs.Viewed.{viewed-length}
@@ -27,23 +27,32 @@ use Rattle.positions.specs.Counts.{factors}
 use Rattle.normal.specs.Normal.{entry, tap_entry, tap_square}
 use Rattle.normal.specs.Calls.{Window}
 use Rattle.normal.proofs.Bounds.{tap-bound, square-bound}
-use Rattle.fit.specs.Steps.{zeros, coefficients_of, chroma_fit}
+use Rattle.fit.specs.Steps.{zeros, coefficients_of, too_small, chroma_fit}
 use Rattle.fit.specs.Words.{chroma_solved}
 use Rattle.fit.specs.Sums.{exact_fit}
 use Rattle.fit.proofs.ExactFit.{chroma-exact}
 
-any : (b : Bool) → (b || true) ≡ true
-any true = refl
-any false = refl
+-- a plane that is not too small
+pub large : (plane : Pair) (lag : ℕ) → too_small plane lag ≡ false → (2 * lag < plane.width) × (lag < plane.height)
+large plane lag = go (leb plane.width (2 * lag)) (leb plane.height lag) refl refl
+  where
+    go : (a b : Bool) → leb plane.width (2 * lag) ≡ a → leb plane.height lag ≡ b → (a || b) ≡ false → (2 * lag < plane.width) × (lag < plane.height)
+    go true b d e f = absurd (true≢false f)
+    go false true d e f = absurd (true≢false f)
+    go false false d e f = (leb-false plane.width (2 * lag) d, leb-false plane.height lag e)
 
 module _ {A : Type 0} (R : Reading A) (l : Luma) (plane : Pair) (lag : ℕ) where
+  pub small : too_small plane lag ≡ true → zeros R ≡ chroma_fit R l plane lag
+  unfolding chroma_fit
+  small e = rw (e, or-true (eqb (length plane.source) 0))
+
   pub narrow : plane.width ≤ 2 * lag → zeros R ≡ chroma_fit R l plane lag
   unfolding chroma_fit
-  narrow a = rw (le-leb plane.width (2 * lag) a, any (eqb (length plane.source) 0))
+  narrow a = rw (le-leb plane.width (2 * lag) a, or-true (eqb (length plane.source) 0))
 
   pub short : plane.height ≤ lag → zeros R ≡ chroma_fit R l plane lag
   unfolding chroma_fit
-  short a = rw (le-leb plane.height lag a, any (leb plane.width (2 * lag)), any (eqb (length plane.source) 0))
+  short a = rw (le-leb plane.height lag a, or-true (leb plane.width (2 * lag)), or-true (eqb (length plane.source) 0))
 
   module _ (size : length plane.source ≡ plane.width * plane.height) (wide : 2 * lag < plane.width) (high : lag < plane.height) where
     -- every test passed
@@ -99,7 +108,3 @@ module _ {g : Geometry} (O : Over g) {y y-denoised source denoised : List ℕ} (
       solved R luma plane lag (viewed-length g.chroma source) wide high (seen-samples S) (luma-limited O L) (tap-over O y y-denoised source denoised lag)
       (entry (noise_of plane) plane.width plane.height lag) (λ i j a b. refl) (at taps) (line-entry (factors lag) tapped t)
       (λ i k. le_trans (tap-bound O L S held i k) (lit≤ tt)) (div binary64 x sixteen) (in-sixteenths z e x d) r f
-
--- sums with the tap have a place for each factor
-pub taps-size : (n : ℕ) (f : ℕ → ℤ) (taps : List ℤ) → taps ≡ tabulate n f → length taps ≡ n
-taps-size n f taps e = ap length e ∙ length-tabulate n f

@@ -1,3 +1,4 @@
+pub mod Made
 pub mod Cells
 pub mod Zeros
 pub mod Places
@@ -5,7 +6,6 @@ pub mod Near
 pub mod FloatEntries
 pub mod Solutions
 pub mod ExactFit
-pub mod Rooms
 pub mod LumaSteps
 pub mod ChromaSteps
 pub mod Readings

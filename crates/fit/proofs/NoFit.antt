@@ -129,7 +129,7 @@ module _ (s : Shape) (y cb cr y-denoised cb-denoised cr-denoised : List ℕ) (la
   bounded a b = le_trans (entry-bound visible (record { few = facts.lag-known; columns = le_of_lt a; rows = le_of_lt b }) (neighbours lag) (neighbours lag) (omega arith) (omega arith)) (lit≤ tt)
 
   is-fit : fit_answer s y cb cr y-denoised cb-denoised cr-denoised lag ≡ fit_of (luma_of s y y-denoised) (plane_of s cb cb-denoised) (plane_of s cr cr-denoised) lag
-  is-fit = sym (accepted-is s y cb cr y-denoised cb-denoised cr-denoised lag _ refl passed)
+  is-fit = sym (accepted-is s y cb cr y-denoised cb-denoised cr-denoised lag (sym passed))
 
   pub no-fit-only : (fit_answer s y cb cr y-denoised cb-denoised cr-denoised lag).found ≡ false → NoFit plane lag
   unfolding fit_of

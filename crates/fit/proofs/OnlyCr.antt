@@ -1,5 +1,5 @@
 -- "Between two accepted calls of one shape that differ only in Cr samples, every luma and Cb result is the same." Assumes nothing.
-use Rattle.std.proofs.Common.{◌≡◌, ℕ, Bool, true, false, cond, List, refl}
+use Rattle.std.proofs.Common.{◌≡◌, ℕ, Bool, true, false, cond, List, sym, refl}
 use Rattle.float.specs.Reading.{coefficients}
 use Rattle.frame.specs.Calls.{fit_refusal}
 use Rattle.frame.specs.declared.Shape.{Shape}
@@ -24,5 +24,5 @@ pub only-cr : (s : Shape) (y cb y-denoised cb-denoised : List ℕ) (lag : ℕ) (
     → fit_refusal s y cb cr y-denoised cb-denoised cr-denoised lag ≡ 0 → fit_refusal s y cb cr' y-denoised cb-denoised cr-denoised' lag ≡ 0
     → SameButCr (fit_answer s y cb cr y-denoised cb-denoised cr-denoised lag) (fit_answer s y cb cr' y-denoised cb-denoised cr-denoised' lag)
 only-cr s y cb y-denoised cb-denoised lag cr cr-denoised cr' cr-denoised' e e' =
-    rw (← accepted-is s y cb cr y-denoised cb-denoised cr-denoised lag _ refl e, ← accepted-is s y cb cr' y-denoised cb-denoised cr-denoised' lag _ refl e')
+    rw (← accepted-is s y cb cr y-denoised cb-denoised cr-denoised lag (sym e), ← accepted-is s y cb cr' y-denoised cb-denoised cr-denoised' lag (sym e'))
     (fits-same (luma_of s y y-denoised) (plane_of s cb cb-denoised) (plane_of s cr cr-denoised) (plane_of s cr' cr-denoised') lag)

@@ -1,9 +1,10 @@
--- Coefficients and marks are two readings of the same values: a part of what a reading tells of a fit is told by the reading of that part. So a fit's coefficients and marks are its list of both, apart (`luma-apart`, `chroma-apart`). Assumes nothing.
-use Rattle.std.proofs.Common.{◌≡◌, ℕ, Bool, true, false, cond, ◌||◌, eqb, List, length, get_or, ℤ, sym, refl, ap, ◌∙◌, arith}
+-- Coefficients and marks are two readings of the same values: a part of what a reading tells of a fit is told by the reading of that part. So a fit's coefficients and marks are those of its list of both (`luma-read`, `chroma-read`). Assumes nothing.
+use Rattle.std.proofs.Common.{◌≡◌, ℕ, Bool, true, false, cond, ◌||◌, eqb, List, length, get_or, sym, refl, ap, ◌∙◌, arith}
 use lib.Ieee.{le}
 use Rattle.laws.specs.Scaled.{plus_zero}
 use Rattle.laws.specs.Table.{tabulate}
-use Rattle.laws.proofs.Table.{get_d_tabulate, tabulate-same}
+use Rattle.laws.proofs.Table.{get_d_tabulate, tabulate-same, map-tabulate}
+use Rattle.float.specs.Mark.{number}
 use Rattle.float.specs.Reading.{Reading, coefficients, marks, both}
 use Rattle.float.proofs.Reading.{part}
 use Rattle.float.specs.declared.quant.Quantised.{Quantised}
@@ -12,7 +13,7 @@ use Rattle.noise.specs.Noise.{Pair}
 use Rattle.solve.specs.Elimination.{Row}
 use Rattle.fit.specs.Steps.{zeros, quantised, coefficients_of, too_small, energy_f, luma_fit, chroma_fit}
 use Rattle.fit.specs.Answer.{first_of}
-use Rattle.fit.specs.Apart.{Apart}
+use Rattle.fit.specs.Record.{coefficients_in, marks_in}
 use Rattle.fit.specs.Words.{luma_solved, chroma_solved}
 use Rattle.fit.proofs.Places.{quantised-at}
 
@@ -54,18 +55,21 @@ module _ {A B : Type 0} (R : Reading A) (f : A → B) where
       tabulate-same 24 _ _
       (λ i l. sym (get_d_tabulate 25 (λ k. f (get_or (luma_fit R plane lag) k R.unquantised)) i S.unquantised (omega arith)) ∙ ap (λ (y : List B). get_or y i S.unquantised) (luma-told plane lag).whole)
 
--- ---- the list of both, apart
-module _ (x : List Quantised) (values : List ℤ) (marked : List ℕ) where
-  pub luma-apart : (plane : Pair) (lag : ℕ) → x ≡ luma_fit both plane lag → Apart x values marked 24
-      → (values ≡ first_of coefficients (luma_fit coefficients plane lag)) × (marked ≡ first_of marks (luma_fit marks plane lag))
-  luma-apart plane lag e a = (
-    a.values-are ∙ ap (λ (l : List Quantised). tabulate 24 (λ i. (get_or l i both.unquantised).coefficient)) e ∙ first-told both (λ q. q.coefficient) plane lag,
-    a.marks-are ∙ ap (λ (l : List Quantised). tabulate 24 (λ i. (get_or l i both.unquantised).mark)) e ∙ first-told both (λ q. q.mark) plane lag,
-  )
+-- ---- the list of both, as C has it
+pub luma-read : (plane : Pair) (lag : ℕ) (x : List Quantised) → x ≡ first_of both (luma_fit both plane lag)
+    → (coefficients_in x ≡ first_of coefficients (luma_fit coefficients plane lag)) × (marks_in x ≡ first_of marks (luma_fit marks plane lag))
+unfolding first_of
+luma-read plane lag x e =
+    let entry = λ (i : ℕ). get_or (luma_fit both plane lag) i both.unquantised in (
+      ap coefficients_in e ∙ map-tabulate (λ q. q.coefficient) 24 entry ∙ first-told both (λ q. q.coefficient) plane lag,
+      ap marks_in e ∙ map-tabulate (λ q. number q.mark) 24 entry ∙ first-told both (λ q. number q.mark) plane lag,
+    )
 
-  pub chroma-apart : (luma : Luma) (plane : Pair) (lag : ℕ) → x ≡ chroma_fit both luma plane lag → Apart x values marked 25
-      → (values ≡ chroma_fit coefficients luma plane lag) × (marked ≡ chroma_fit marks luma plane lag)
-  chroma-apart luma plane lag e a = (
-    a.values-are ∙ ap (λ (l : List Quantised). tabulate 25 (λ i. (get_or l i both.unquantised).coefficient)) e ∙ chroma-told both (λ q. q.coefficient) luma plane lag,
-    a.marks-are ∙ ap (λ (l : List Quantised). tabulate 25 (λ i. (get_or l i both.unquantised).mark)) e ∙ chroma-told both (λ q. q.mark) luma plane lag,
-  )
+pub chroma-read : (luma : Luma) (plane : Pair) (lag : ℕ) (x : List Quantised) → x ≡ chroma_fit both luma plane lag
+    → (coefficients_in x ≡ chroma_fit coefficients luma plane lag) × (marks_in x ≡ chroma_fit marks luma plane lag)
+chroma-read luma plane lag x e =
+    let entry = λ (i : ℕ). get_or (chroma_fit both luma plane lag) i both.unquantised in
+    let whole : x ≡ tabulate 25 entry = e ∙ sym (chroma-told both (λ q. q) luma plane lag) in (
+      ap coefficients_in whole ∙ map-tabulate (λ q. q.coefficient) 25 entry ∙ chroma-told both (λ q. q.coefficient) luma plane lag,
+      ap marks_in whole ∙ map-tabulate (λ q. number q.mark) 25 entry ∙ chroma-told both (λ q. number q.mark) luma plane lag,
+    )

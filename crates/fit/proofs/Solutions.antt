@@ -1,5 +1,5 @@
 -- The coefficients from the solver's answer; and equal sums make equal equations. Assumes nothing.
-use Rattle.std.proofs.Common.{◌≡◌, ℕ, ◌+◌, ◌<◌, ◌≤◌, Bool, true, false, cond, ltb, leb, List, ℤ, refl, ap, ◌∙◌, le_refl, le_of_lt, arith, leb-false, leb-true}
+use Rattle.std.proofs.Common.{◌≡◌, ℕ, ◌+◌, ◌<◌, ◌≤◌, Bool, true, false, cond, Option, Some, None, Result, Ok, Err, ltb, leb, List, ℤ, refl, ap, ◌∙◌, le_refl, le_of_lt, arith, leb-false, leb-true}
 use lib.Ieee.{Float, binary64, div, of_int}
 use Rattle.laws.specs.Constants.{four}
 use Rattle.laws.specs.Scaled.{plus_zero}
@@ -7,10 +7,24 @@ use Rattle.laws.proofs.Table.{tabulate-same}
 use Rattle.float.specs.Reading.{Reading}
 use Rattle.positions.specs.Counts.{neighbours, factors}
 use Rattle.solve.specs.Elimination.{Row, Matrix}
-use Rattle.solve.specs.Answer.{solved_of}
+use Rattle.solve.specs.Answer.{solved_of, record_of}
 use Rattle.solve.specs.declared.Solved.{Solved}
+use Rattle.solve.specs.declared.Solution.{Solution}
+use Rattle.frame.specs.declared.refusal.Refusal.{Refusal}
+use Rattle.std.specs.Result.{result_unwrap_or}
 use Rattle.fit.specs.Steps.{cell_of, row_of, matrix_of, value_of, right_of, zeros, quantised, coefficients_of}
 use Rattle.fit.specs.Sums.{cell_sum, right_sum, exact_fit}
+
+-- the solver's answer, as C has it, where it has a solution or none
+pub found-of : (o : Result (Option Solution) Refusal) (s : Solution) → result_unwrap_or o None ≡ Some s → ((record_of o).found ≡ true) × ((record_of o).solution ≡ s)
+found-of (Ok (Some x)) s e = (refl, cc)
+found-of (Ok None) s e = absurd (cc)
+found-of (Err x) s e = absurd (cc)
+
+pub none-of : (o : Result (Option Solution) Refusal) → result_unwrap_or o None ≡ None → (record_of o).found ≡ false
+none-of (Ok (Some x)) e = absurd (cc)
+none-of (Ok None) e = refl
+none-of (Err x) e = refl
 
 module _ {A : Type 0} (R : Reading A) (entries : ℕ → ℕ → ℤ) (taps : ℕ → ℤ) (squares : Float) (lag p : ℕ) (a : Matrix) (b : Row) (r : Solved)
     (ea : a ≡ matrix_of (cell_sum entries taps squares lag) p) (eb : b ≡ right_of (right_sum entries taps lag) p) (er : r ≡ solved_of a b p) where

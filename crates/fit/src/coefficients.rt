@@ -1,44 +1,31 @@
-// The coefficients of p factors, from exact sums.
-ghost use Rattle.std.specs.Prelude.{◌≡◌, ◌≤◌};
+// The coefficients of the unknowns, from exact sums.
+ghost use Rattle.std.specs.Prelude.{◌≡◌};
 ghost use Rattle.float.specs.Reading.{both};
 ghost use Rattle.noise.specs.Lines.{at};
-ghost use Rattle.positions.specs.Counts.{factors};
 ghost use Rattle.normal.specs.Layout.{sum_at};
 ghost use Rattle.fit.specs.Steps.{quantised};
-ghost use Rattle.fit.specs.Sums.{Room, exact_fit};
+ghost use Rattle.fit.specs.Sums.{exact_fit};
 
-use crate::equations::{matrix, right_side};
+use crate::equations::ExactSums;
 use float::{Quantised, UNQUANTISED};
+use solve::ORDER_LIMIT;
 
-// Each value quantised.
-fn quantise(x: [f64; 25]) -> [Quantised; 25]
-    ensures { result ≡ quantised both x }
+// Each value quantised. By a closure: another crate's function has no contract here as a value.
+fn quantise(values: [f64; ORDER_LIMIT]) -> [Quantised; ORDER_LIMIT]
+    ensures { result ≡ quantised both values }
 {
-    let mut out = [UNQUANTISED; 25];
-    for i in 0..25 {
-        out[i] = float::quant_ar(x[i]);
-    }
-    out
+    values.map(|c| float::quant_ar(c))
 }
 
-// The equations solved, and quantised; zeros where there is no solution.
-pub fn coefficients(
-    sums: &[i64],
-    taps: &[i64],
-    squares: f64,
-    lag: usize,
-    p: usize,
-) -> [Quantised; 25]
-    requires { Room sums.now taps.now lag × (p ≤ factors lag) }
-    ensures { result ≡ exact_fit both (sum_at sums.now lag) (at taps.now) squares lag p }
-{
-    let a = matrix(sums, taps, squares, lag, p);
-    let b = right_side(sums, taps, lag, p);
-    let solved = solve::solve_normal(a, b, p);
-    if solved.found {
-        let x = solved.solution;
-        let values = x.values;
-        return quantise(values);
+impl ExactSums<'_> {
+    // The equations solved, and quantised; zeros where there is no solution.
+    pub fn coefficients(&self) -> [Quantised; ORDER_LIMIT]
+        ensures { result ≡ exact_fit both (sum_at self.now.sums.now self.now.lag) (at self.now.taps.now) self.now.squares self.now.lag self.now.unknowns }
+    {
+        let solved = solve::solve_normal(self.matrix(), self.right_side(), self.unknowns);
+        match solved.unwrap_or(None) {
+            Some(solution) => quantise(solution.values),
+            None => [UNQUANTISED; ORDER_LIMIT],
+        }
     }
-    [UNQUANTISED; 25]
 }

@@ -1,101 +1,99 @@
 // The normal equations in f64, from exact sums of products of a lag's neighbours, the sample and the luma average.
 ghost use Rattle.std.specs.Prelude.{◌≡◌, ◌≤◌};
-ghost use Rattle.noise.specs.Lines.{at};
 ghost use Rattle.positions.specs.Counts.{neighbours, factors};
-ghost use Rattle.normal.specs.Layout.{sum_at};
 ghost use Rattle.fit.specs.Steps.{cell_of, row_of, matrix_of, value_of, right_of};
-ghost use Rattle.fit.specs.Sums.{Room, cell_sum, right_sum};
+ghost use Rattle.fit.specs.Sums.{Room};
 
 use crate::counts::neighbour_count;
+use solve::ORDER_LIMIT;
 
-// Σ factor i × factor j, from a whole number, or from quarters with one average; `squares` with two.
-fn cell_sum(sums: &[i64], taps: &[i64], squares: f64, lag: usize, i: usize, j: usize) -> f64
-    requires { Room sums.now taps.now lag × (i ≤ neighbours lag) × (j ≤ neighbours lag) }
-    ensures { result ≡ cell_sum (sum_at sums.now lag) (at taps.now) squares lag i j }
-{
-    let n = neighbour_count(lag);
-    if j < n {
-        let whole = normal::neighbour_sum(sums, lag, i, j);
-        return std::num::nearest_i64_to_f64(whole);
-    }
-    if i < n {
-        let quarters = taps[i];
-        return std::num::nearest_i64_to_f64(quarters) / 4.0;
-    }
-    squares
+// The sums of every two of a lag's neighbours and the sample; of each of them with the luma average; and of the average's squares. The first factors are unknowns.
+#[derive(Clone, Copy)]
+pub struct ExactSums<'a> {
+    pub sums: &'a [i64],
+    pub taps: &'a [i64],
+    pub squares: f64,
+    pub lag: usize,
+    pub unknowns: usize,
+    ghost room: { Room sums.now taps.now lag },
+    ghost few: { unknowns ≤ factors lag },
 }
 
-// Σ factor i × sample.
-fn right_sum(sums: &[i64], taps: &[i64], lag: usize, i: usize) -> f64
-    requires { Room sums.now taps.now lag × (i ≤ neighbours lag) }
-    ensures { result ≡ right_sum (sum_at sums.now lag) (at taps.now) lag i }
-{
-    let n = neighbour_count(lag);
-    if i < n {
-        let whole = normal::neighbour_sum(sums, lag, i, n);
-        return std::num::nearest_i64_to_f64(whole);
-    }
-    let quarters = taps[n];
-    std::num::nearest_i64_to_f64(quarters) / 4.0
-}
+impl ExactSums<'_> {
+    ghost use Rattle.fit.specs.ExactSums.{cell_in, right_in};
 
-// Row i, column j of the matrix, p of which are used; the lower half is the upper's.
-fn cell(sums: &[i64], taps: &[i64], squares: f64, lag: usize, p: usize, i: usize, j: usize) -> f64
-    requires { Room sums.now taps.now lag × (p ≤ factors lag) }
-    ensures { result ≡ cell_of (cell_sum (sum_at sums.now lag) (at taps.now) squares lag) p i j }
-{
-    if p <= i {
-        return 0.0;
+    // Σ factor i × factor j, from a whole number, or from quarters with one average; `squares` with two.
+    fn cell_sum(&self, i: usize, j: usize) -> f64
+        requires { (i ≤ neighbours self.now.lag) × (j ≤ neighbours self.now.lag) }
+        ensures { result ≡ cell_in self.now i j }
+    {
+        let n = neighbour_count(self.lag);
+        if j < n {
+            let whole = normal::neighbour_sum(self.sums, self.lag, i, j);
+            std::num::nearest_i64_to_f64(whole)
+        } else if i < n {
+            std::num::nearest_i64_to_f64(self.taps[i]) / 4.0
+        } else {
+            self.squares
+        }
     }
-    if p <= j {
-        return 0.0;
-    }
-    if i <= j {
-        return cell_sum(sums, taps, squares, lag, i, j);
-    }
-    cell_sum(sums, taps, squares, lag, j, i)
-}
 
-fn matrix_row(sums: &[i64], taps: &[i64], squares: f64, lag: usize, p: usize, i: usize) -> [f64; 25]
-    requires { Room sums.now taps.now lag × (p ≤ factors lag) }
-    ensures { result ≡ row_of (cell_sum (sum_at sums.now lag) (at taps.now) squares lag) p i }
-{
-    let mut row = [0.0; 25];
-    for j in 0..25 {
-        row[j] = cell(sums, taps, squares, lag, p, i, j);
+    // Σ factor i × sample.
+    fn right_sum(&self, i: usize) -> f64
+        requires { i ≤ neighbours self.now.lag }
+        ensures { result ≡ right_in self.now i }
+    {
+        let n = neighbour_count(self.lag);
+        if i < n {
+            let whole = normal::neighbour_sum(self.sums, self.lag, i, n);
+            std::num::nearest_i64_to_f64(whole)
+        } else {
+            std::num::nearest_i64_to_f64(self.taps[n]) / 4.0
+        }
     }
-    row
-}
 
-pub fn matrix(sums: &[i64], taps: &[i64], squares: f64, lag: usize, p: usize) -> [[f64; 25]; 25]
-    requires { Room sums.now taps.now lag × (p ≤ factors lag) }
-    ensures { result ≡ matrix_of (cell_sum (sum_at sums.now lag) (at taps.now) squares lag) p }
-{
-    let mut m = [[0.0; 25]; 25];
-    for i in 0..25 {
-        m[i] = matrix_row(sums, taps, squares, lag, p, i);
+    // Row i, column j of the matrix; the lower half is the upper's.
+    fn cell(&self, i: usize, j: usize) -> f64
+        ensures { result ≡ cell_of (cell_in self.now) self.now.unknowns i j }
+    {
+        if i.max(j) < self.unknowns {
+            self.cell_sum(i.min(j), i.max(j))
+        } else {
+            0.0
+        }
     }
-    m
-}
 
-// Value i of the right side, p of which are used.
-fn right_value(sums: &[i64], taps: &[i64], lag: usize, p: usize, i: usize) -> f64
-    requires { Room sums.now taps.now lag × (p ≤ factors lag) }
-    ensures { result ≡ value_of (right_sum (sum_at sums.now lag) (at taps.now) lag) p i }
-{
-    if p <= i {
-        return 0.0;
+    fn matrix_row(&self, i: usize) -> [f64; ORDER_LIMIT]
+        ensures { result ≡ row_of (cell_in self.now) self.now.unknowns i }
+    {
+        std::array::from_fn(|j| self.cell(i, j))
     }
-    right_sum(sums, taps, lag, i)
-}
 
-pub fn right_side(sums: &[i64], taps: &[i64], lag: usize, p: usize) -> [f64; 25]
-    requires { Room sums.now taps.now lag × (p ≤ factors lag) }
-    ensures { result ≡ right_of (right_sum (sum_at sums.now lag) (at taps.now) lag) p }
-{
-    let mut right = [0.0; 25];
-    for i in 0..25 {
-        right[i] = right_value(sums, taps, lag, p, i);
+    // The closure states what a row is: of a call that gives an array none is read from its body.
+    pub fn matrix(&self) -> [[f64; ORDER_LIMIT]; ORDER_LIMIT]
+        ensures { result ≡ matrix_of (cell_in self.now) self.now.unknowns }
+    {
+        std::array::from_fn(
+            |i: usize| -> [f64; ORDER_LIMIT]
+                ensures { result ≡ row_of (cell_in self.entry.now) self.entry.now.unknowns i }
+            { self.matrix_row(i) },
+        )
     }
-    right
+
+    // Value i of the right side.
+    fn right_value(&self, i: usize) -> f64
+        ensures { result ≡ value_of (right_in self.now) self.now.unknowns i }
+    {
+        if i < self.unknowns {
+            self.right_sum(i)
+        } else {
+            0.0
+        }
+    }
+
+    pub fn right_side(&self) -> [f64; ORDER_LIMIT]
+        ensures { result ≡ right_of (right_in self.now) self.now.unknowns }
+    {
+        std::array::from_fn(|i| self.right_value(i))
+    }
 }

@@ -7,53 +7,54 @@ mod coefficients; // solved and quantised
 mod planes; // the fit of a plane
 
 ghost use Rattle.std.specs.Prelude.{◌≡◌, ◌≤◌, length};
-ghost use Rattle.fit.specs.Answer.{all_zero, unfit, fit_answer};
-ghost use Rattle.fit.specs.Apart.{Apart};
+ghost use Rattle.float.specs.Reading.{both};
+ghost use Rattle.fit.specs.Answer.{all_zero, first_of, unfit, fit_answer};
+ghost use Rattle.fit.specs.Record.{coefficients_in, marks_in, record_of};
 
 use counts::neighbour_count;
 use float::Quantised;
-use frame::Shape;
-use planes::{chroma_fit, luma_fit};
+use frame::{FramePair, Refusal, Shape};
+use planes::{Chroma, chroma_fit, luma_fit};
+use positions::NEIGHBOUR_LIMIT;
+use solve::ORDER_LIMIT;
 
-// A refusal's number; whether there is a fit; the coefficients, each times 64, in the order of neighbours: `count` of luma, and of chroma one more, the luma tap. The unused ones are 0. Then the mark of each.
+// The coefficients, each times 64, with their marks, in the order of neighbours: `count` of luma, and of chroma one more, the luma tap. The unused ones are 0.
+#[derive(Clone, Copy, Debug, PartialEq, Eq)]
+pub struct Fitted {
+    pub count: usize,
+    pub luma: [Quantised; NEIGHBOUR_LIMIT],
+    pub cb: [Quantised; ORDER_LIMIT],
+    pub cr: [Quantised; ORDER_LIMIT],
+}
+
+// The answer as C has it: a refusal's number; whether there is a fit; the coefficients, and then the mark of each.
 #[repr(C)]
 #[derive(Clone, Copy)]
 pub struct Fit {
     pub refusal: u32,
     pub found: bool,
     pub count: usize,
-    pub luma: [i32; 24],
-    pub cb: [i32; 25],
-    pub cr: [i32; 25],
-    pub luma_marks: [u8; 24],
-    pub cb_marks: [u8; 25],
-    pub cr_marks: [u8; 25],
+    pub luma: [i32; NEIGHBOUR_LIMIT],
+    pub cb: [i32; ORDER_LIMIT],
+    pub cr: [i32; ORDER_LIMIT],
+    pub luma_marks: [u8; NEIGHBOUR_LIMIT],
+    pub cb_marks: [u8; ORDER_LIMIT],
+    pub cr_marks: [u8; ORDER_LIMIT],
 }
 
-// Coefficients and marks apart, as many as there is room for.
-fn apart(x: [Quantised; 25], values: &mut [i32], marks: &mut [u8])
-    requires { (length values.old ≡ length marks.old) × (length marks.old ≤ 25) }
-    ensures { Apart x values.new marks.new (length marks.old) }
+// As C has them: coefficients, and marks as bytes.
+fn coefficients_of<const N: usize>(x: [Quantised; N]) -> [i32; N]
+    requires { N ≤ 25 }
+    ensures { result ≡ coefficients_in x.entry }
 {
-    for i in 0..marks.len() {
-        let each = x[i];
-        let value = each.coefficient;
-        values[i] = value;
-        marks[i] = each.mark;
-    }
+    x.map(|q| q.coefficient)
 }
 
-// Are the first n all 0?
-fn all_zero(x: [i32; 24], n: usize) -> bool
-    requires { n ≤ 24 }
-    ensures { result ≡ all_zero x n }
+fn marks_of<const N: usize>(x: [Quantised; N]) -> [u8; N]
+    requires { N ≤ 25 }
+    ensures { result ≡ marks_in x.entry }
 {
-    for i in 0..n {
-        if x[i] != 0 {
-            return false;
-        }
-    }
-    true
+    x.map(|q| q.mark.into())
 }
 
 // Refused, or with 0 no fit.
@@ -64,62 +65,67 @@ fn unfitted(refusal: u32) -> Fit
         refusal,
         found: false,
         count: 0,
-        luma: [0; 24],
-        cb: [0; 25],
-        cr: [0; 25],
-        luma_marks: [0; 24],
-        cb_marks: [0; 25],
-        cr_marks: [0; 25],
+        luma: [0; NEIGHBOUR_LIMIT],
+        cb: [0; ORDER_LIMIT],
+        cr: [0; ORDER_LIMIT],
+        luma_marks: [0; NEIGHBOUR_LIMIT],
+        cb_marks: [0; ORDER_LIMIT],
+        cr_marks: [0; ORDER_LIMIT],
     }
 }
 
-// The fit of a frame's noise at one lag.
-pub fn fit_ar_lag(
-    s: Shape,
-    y: &[u16],
-    cb: &[u16],
-    cr: &[u16],
-    yden: &[u16],
-    cbden: &[u16],
-    crden: &[u16],
-    lag: usize,
-) -> Fit
-    ensures { result ≡ fit_answer s y.now cb.now cr.now yden.now cbden.now crden.now lag }
+impl From<Result<Option<Fitted>, Refusal>> for Fit {
+    ghost from_gives = { λ outcome answer. answer ≡ record_of outcome };
+
+    fn from(outcome: Result<Option<Fitted>, Refusal>) -> Self {
+        match outcome {
+            Ok(Some(fitted)) => Fit {
+                refusal: 0,
+                found: true,
+                count: fitted.count,
+                luma: coefficients_of(fitted.luma),
+                cb: coefficients_of(fitted.cb),
+                cr: coefficients_of(fitted.cr),
+                luma_marks: marks_of(fitted.luma),
+                cb_marks: marks_of(fitted.cb),
+                cr_marks: marks_of(fitted.cr),
+            },
+            Ok(None) => unfitted(0),
+            Err(refusal) => unfitted(refusal.into()),
+        }
+    }
+}
+
+// Luma's, which has no luma tap.
+fn without_tap(x: [Quantised; ORDER_LIMIT]) -> [Quantised; NEIGHBOUR_LIMIT]
+    ensures { result ≡ first_of both x }
 {
-    let refused = frame::fit_refusal(s, y, cb, cr, yden, cbden, crden, lag);
-    if refused != 0 {
-        return unfitted(refused);
-    }
-    let geometry = frame::geometry_of(s);
+    std::array::from_fn(|i| x[i])
+}
+
+// Are all 0?
+fn all_zero(x: &[Quantised]) -> bool
+    ensures { result ≡ all_zero (coefficients_in x.now) (length x.now) }
+{
+    x.iter().all(|q| q.coefficient == 0)
+}
+
+// The fit of a frame's noise at one lag; none where luma's coefficients are all 0.
+pub fn fit_ar_lag(s: Shape, frame: &FramePair<'_>, lag: usize) -> Result<Option<Fitted>, Refusal>
+    ensures { record_of result ≡ fit_answer s frame.now.source.y.now frame.now.source.cb.now frame.now.source.cr.now frame.now.denoised.y.now frame.now.denoised.cb.now frame.now.denoised.cr.now lag }
+{
+    frame::ask_fit(s, frame, lag)?;
+    let shown = normal::show_frame(frame, frame::geometry_of(s));
     let count = neighbour_count(lag);
-    let mut luma = [0; 24];
-    let mut luma_marks = [0; 24];
-    apart(
-        luma_fit(y, yden, geometry.luma, lag),
-        &mut luma,
-        &mut luma_marks,
-    );
-    if all_zero(luma, count) {
-        return unfitted(0);
+    let luma = without_tap(luma_fit(&shown.luma, lag));
+    if all_zero(&luma[..count]) {
+        return Ok(None);
     }
-    let chroma = chroma_fit(y, yden, cb, cbden, cr, crden, geometry, lag);
-    let blue = chroma.cb;
-    let red = chroma.cr;
-    let mut cb_values = [0; 25];
-    let mut cb_marks = [0; 25];
-    apart(blue, &mut cb_values, &mut cb_marks);
-    let mut cr_values = [0; 25];
-    let mut cr_marks = [0; 25];
-    apart(red, &mut cr_values, &mut cr_marks);
-    Fit {
-        refusal: 0,
-        found: true,
+    let Chroma { cb, cr } = chroma_fit(&shown, lag);
+    Ok(Some(Fitted {
         count,
         luma,
-        cb: cb_values,
-        cr: cr_values,
-        luma_marks,
-        cb_marks,
-        cr_marks,
-    }
+        cb,
+        cr,
+    }))
 }

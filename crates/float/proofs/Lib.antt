@@ -14,7 +14,7 @@ pub mod NearestRoot
 pub mod WorkedDigits
 mod Rounded64
 pub mod Coefficient
-pub mod Mark
+pub mod Marks
 mod MarkSteps
 pub mod Reading
 pub mod WholeSigma

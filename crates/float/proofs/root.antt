@@ -2,6 +2,7 @@
 pub mod Loop
 pub mod Pattern
 pub mod Normal
+pub mod Leading
 pub mod Split
 pub mod Closest
 pub mod Rounded

@@ -6,11 +6,12 @@ mod cast;
 mod quant;
 mod root;
 mod rounding;
+mod scaled;
 mod sigma;
 mod sign;
 
 pub use cast::{as_i32, as_u64, clamp};
-pub use quant::{HELD_HIGH, HELD_LOW, INSIDE, NOT_A_NUMBER, Quantised, UNQUANTISED, quant_ar};
+pub use quant::{Mark, Quantised, UNQUANTISED, quant_ar};
 pub use root::{Root, sqrt, sqrt_digits};
 pub use rounding::round;
 pub use sigma::sigma16;

@@ -7,44 +7,52 @@ ghost use Rattle.float.specs.Reading.{quantise};
 use crate::cast::{as_i32, clamp};
 use crate::rounding::round;
 
-// The marks.
-pub const INSIDE: u8 = 0;
+// What became of a value that was quantised.
+#[repr(u8)]
+#[derive(Clone, Copy, Debug, PartialEq, Eq)]
+pub enum Mark {
+    Inside,
+    HeldLow,
+    HeldHigh,
+    NotANumber,
+}
 
-pub const HELD_LOW: u8 = 1;
+// As a byte of an answer: 0 to 3.
+impl From<Mark> for u8 {
+    ghost from_gives = { λ mark byte. byte ≡ number mark };
 
-pub const HELD_HIGH: u8 = 2;
-
-pub const NOT_A_NUMBER: u8 = 3;
+    fn from(mark: Mark) -> u8 {
+        mark as u8
+    }
+}
 
 // A coefficient, and its mark.
-#[repr(C)]
-#[derive(Clone, Copy)]
+#[derive(Clone, Copy, Debug, PartialEq, Eq)]
 pub struct Quantised {
     pub coefficient: i32,
-    pub mark: u8,
+    pub mark: Mark,
 }
 
 // A coefficient that is set to zero without quantising.
 pub const UNQUANTISED: Quantised = Quantised {
     coefficient: 0,
-    mark: INSIDE,
+    mark: Mark::Inside,
 };
 
 // The mark of c, told by 64c as a whole number that is not yet held to the coefficients' range. As an i32 a NaN is 0, so c is asked.
-fn mark_of(c: f64, whole: i32) -> u8
+fn mark_of(c: f64, whole: i32) -> Mark
     requires { whole ≡ rounded64 c }
-    ensures { result ≡ number (mark c) }
+    ensures { result ≡ mark c }
 {
-    if c != c {
-        return NOT_A_NUMBER;
+    if c.is_nan() {
+        Mark::NotANumber
+    } else if whole < -128 {
+        Mark::HeldLow
+    } else if whole > 127 {
+        Mark::HeldHigh
+    } else {
+        Mark::Inside
     }
-    if whole < -128 {
-        return HELD_LOW;
-    }
-    if whole > 127 {
-        return HELD_HIGH;
-    }
-    INSIDE
 }
 
 // The whole number nearest to 64c, halves away from zero, held to -128..127.

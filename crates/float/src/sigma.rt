@@ -7,6 +7,7 @@ use crate::root::sqrt;
 use crate::rounding::round;
 
 // round(16 * root(sq / count)), each step rounded to f64; 0 where nothing is counted.
+#[tactic(auto, unfolding(crate::specs::Steps::sigma16_of))]
 pub fn sigma16(sq: u64, count: u64) -> u64
     ensures { result ≡ sigma16_of sq count }
 {

@@ -6,11 +6,5 @@ ghost use Rattle.float.specs.Magnitude.{magnitude_of};
 pub fn magnitude(x: f64) -> f64
     ensures { result ≡ magnitude_of x }
 {
-    if x < 0.0 {
-        return -x;
-    }
-    if x == 0.0 {
-        return 0.0;
-    }
-    x
+    x.abs()
 }

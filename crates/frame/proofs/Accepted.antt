@@ -12,7 +12,7 @@ use Rattle.frame.specs.declared.view.Component.{Component}
 use Rattle.frame.specs.declared.view.Component.TheVariants.{Y, CbCr}
 use Rattle.frame.specs.Questions.{Question, first_no, filled, frame_filled, samples_low, lag_known, each}
 use Rattle.frame.specs.Calls.{shape_numbers, plane_numbers, pair_numbers, frame_numbers, gate_numbers, copy_questions, plane_refusal, pair_refusal, frame_refusal, fit_refusal, gate_refusal, denoise_frame_refusal}
-use Rattle.frame.proofs.Refusal.{numbered, passed, parts}
+use Rattle.frame.proofs.FirstNo.{numbered, passed, parts}
 use Rattle.frame.proofs.Facts.{Sides, is-small, Depth, is-depth, Known, is_known, inside, Each, are-each, LowPlane, is-plane, Lows, are-low}
 
 -- a call that is asked about samples last

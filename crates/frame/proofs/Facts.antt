@@ -17,7 +17,7 @@ use Rattle.frame.specs.Calls.{shape_numbers}
 use Rattle.frame.specs.Planes.{width_of, height_of}
 use Rattle.frame.specs.Inside.{Inside}
 use Rattle.frame.specs.declared.view.Component.TheVariants.{CbCr}
-use Rattle.frame.proofs.Refusal.{passed}
+use Rattle.frame.proofs.FirstNo.{passed}
 use Rattle.frame.proofs.Size.{columns-le, rows-le}
 use Rattle.frame.proofs.Samples.{low_below}
 

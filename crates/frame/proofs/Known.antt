@@ -7,7 +7,7 @@ use lib.Dec.{leb}
 use borrow.Author.Tests.{leb-true}
 use Rattle.frame.specs.Questions.{lag_known, order_known, bits_known}
 use Rattle.frame.specs.Calls.{lag_refusal, order_refusal, bits_refusal}
-use Rattle.frame.proofs.Refusal.{passed}
+use Rattle.frame.proofs.FirstNo.{passed}
 
 pub lag-fits : (lag : ℕ) → lag_refusal lag ≡ 0 → lag ≤ 3
 lag-fits lag e = leb-true lag 3 (passed (lag_known lag ∷ []) refl e).0

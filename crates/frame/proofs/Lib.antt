@@ -1,7 +1,8 @@
 pub mod Text
 pub mod Size
 pub mod Viewed
-pub mod Refusal
+pub mod Several
+pub mod FirstNo
 pub mod Cause
 pub mod Samples
 pub mod Gathered

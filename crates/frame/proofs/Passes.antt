@@ -14,7 +14,7 @@ use Rattle.frame.specs.declared.view.Component.TheVariants.{Y, CbCr}
 use Rattle.frame.specs.Planes.{width_of, height_of, samples_of}
 use Rattle.frame.specs.Questions.{first_no, depth_known, is_part, filled, frame_filled, samples_low, lag_known, each, low, all_low}
 use Rattle.frame.specs.Calls.{shape_numbers, frame_numbers, gate_numbers, copy_questions, frame_refusal, fit_refusal, gate_refusal}
-use Rattle.frame.proofs.Refusal.{all-passed, both}
+use Rattle.frame.proofs.FirstNo.{all-passed, both}
 use Rattle.frame.proofs.Samples.{below-low}
 use Rattle.frame.proofs.Facts.{Depth, Part, Known, Each, LowPlane, Lows}
 use Rattle.frame.proofs.Accepted.{FrameCall, FitCall, GateCall}

@@ -4,18 +4,22 @@
 mod view; // how a plane is looked at
 mod active; // what a call sees of a frame
 mod questions; // each question, a yes or no
-mod numbers; // the questions about numbers alone
-mod refusals; // all questions of a call
+mod refusal; // why a call is refused
+mod planes; // planes as they are lent
+mod alike; // questions put to several planes alike
+mod asked; // all questions of a call
 
 ghost use Rattle.std.specs.Prelude.{◌≡◌, cond, ◌+◌, ◌/◌};
 ghost use Rattle.frame.specs.Planes.{whole_frame, columns_of, rows_of, width_of, height_of, sampling_of};
 
 pub use active::{geometry_of, view_of};
-pub use numbers::{
-    bits_refusal, frame_numbers, lag_refusal, order_refusal, pair_numbers, plane_refusal,
+pub use asked::{
+    ask, ask_bits, ask_denoise_frame, ask_fit, ask_frame, ask_gate, ask_lag, ask_order, ask_pair,
+    ask_pair_numbers, ask_plane,
 };
+pub use planes::{FramePair, Pair, Planes};
 pub use questions::{format_known, samples_low};
-pub use refusals::{denoise_frame_refusal, fit_refusal, frame_refusal, gate_refusal, pair_refusal};
+pub use refusal::Refusal;
 pub use view::{Component, Geometry, Sampling, View};
 
 // The largest width and the largest height.
@@ -38,15 +42,9 @@ pub struct Shape {
     pub width: usize,
     pub height: usize,
     pub depth: u8,
+    // A number and no enum: C lends any, and question 4 asks it.
     pub format: u8,
     pub active: Rectangle,
-}
-
-// (x + 1) / 2
-fn half_up(x: usize) -> usize
-    ensures { result ≡ (x + 1) / 2 }
-{
-    x / 2 + x % 2
 }
 
 // A side of a chroma plane, from luma's: 0, (x + 1) / 2 or x
@@ -54,19 +52,12 @@ fn chroma_side(absent: bool, halved: bool, x: usize) -> usize
     ensures { result ≡ cond absent 0 (cond halved ((x + 1) / 2) x) }
 {
     if absent {
-        return 0;
+        0
+    } else if halved {
+        x.div_ceil(2)
+    } else {
+        x
     }
-    if halved {
-        return half_up(x);
-    }
-    x
-}
-
-// 1 for yes, 0 for no
-fn bit(b: bool) -> usize
-    ensures { result ≡ cond b 1 0 }
-{
-    if b { 1 } else { 0 }
 }
 
 impl Shape {
@@ -127,8 +118,8 @@ impl Shape {
     pub fn sampling(self) -> Sampling
         ensures { result ≡ sampling_of self }
     {
-        let across = bit(self.format <= 2);
-        let down = bit(self.format <= 1);
+        let across = usize::from(self.format <= 2);
+        let down = usize::from(self.format <= 1);
         Sampling { across, down }
     }
 }

@@ -1,5 +1,5 @@
 -- The answers of the calls, from the number of their questions and from what they find. Assumes nothing.
-use Rattle.std.proofs.Common.{◌≡◌, ℕ, zero, suc, ◌-◌, List, sym, refl}
+use Rattle.std.proofs.Common.{Ok, Err, ◌≡◌, ℕ, zero, suc, ◌-◌, List, sym, refl}
 use lib.Ieee.{Float}
 use Rattle.frame.specs.View.{whole}
 use Rattle.frame.specs.Planes.{view_of}
@@ -7,23 +7,22 @@ use Rattle.frame.specs.Calls.{pair_refusal, gate_refusal}
 use Rattle.frame.specs.declared.Shape.{Shape}
 use Rattle.frame.specs.declared.view.View.{View}
 use Rattle.frame.specs.declared.view.Component.TheVariants.{Y, CbCr}
-use Rattle.frame.proofs.Refusal as refusal
+use Rattle.frame.proofs.FirstNo as refusal
 use Rattle.noise.specs.Seen.{seen}
 use Rattle.gate.specs.RowCorrelation.{row_correlation}
 use Rattle.gate.specs.Answers.{rho, rho_answer, refused_gate, found_gate, luma_answer, chroma_answer}
 use Rattle.gate.specs.Tests.{luma_of, chroma_finding}
-use Rattle.gate.specs.declared.Rho.TheVariants.{Refused, Value}
 
-rho-refused : (n : ℕ) (x : Float) → (n ≡ 0 → ⊥) → Refused n ≡ rho n x
+rho-refused : (n : ℕ) (x : Float) → (n ≡ 0 → ⊥) → Err n ≡ rho n x
 rho-refused zero x h = absurd (h refl)
 rho-refused (suc n) x h = refl
 
 module _ (a b : List ℕ) (w h lag depth n : ℕ) (asked : n ≡ pair_refusal w h depth a b) where
-  pub refused : (n ≡ 0 → ⊥) → Refused n ≡ rho_answer a b w h lag depth
+  pub refused : (n ≡ 0 → ⊥) → Err n ≡ rho_answer a b w h lag depth
   unfolding rho_answer
   refused z = rw (← asked) (rho-refused n _ z)
 
-  pub answered : {x : Float} → n ≡ 0 → x ≡ row_correlation (seen (whole w h) a b) lag → Value x ≡ rho_answer a b w h lag depth
+  pub answered : {x : Float} → n ≡ 0 → x ≡ row_correlation (seen (whole w h) a b) lag → Ok x ≡ rho_answer a b w h lag depth
   unfolding rho_answer
   answered z e = rw (← asked, z, e)
 

@@ -4,7 +4,7 @@ use Rattle.frame.specs.Planes.{cropped, cropped_frame}
 use Rattle.frame.specs.Calls.{gate_refusal}
 use Rattle.frame.specs.declared.Shape.{Shape}
 use Rattle.frame.specs.declared.view.Component.TheVariants.{Y, CbCr}
-use Rattle.frame.proofs.Refusal.{granted}
+use Rattle.frame.proofs.FirstNo.{granted}
 use Rattle.frame.proofs.Cropped.{cropped-gate-passes}
 use Rattle.noise.proofs.Cropped.{seen-cropped}
 use Rattle.gate.specs.Tests.{luma_of, chroma_finding}

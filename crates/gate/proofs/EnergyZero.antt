@@ -56,7 +56,7 @@ module _ {v : View} {s d : List ℕ} (S : Seen v s d) where
       (le_trans (mul-le-mul S.low (mul-le-mul S.narrow (le_refl (noise_limit * noise_limit)))) (lit≤ tt))
 
   pub energy-float : of_int binary64 (energy p) ≡ dot_f p p
-  energy-float = dot-is S S refl
+  energy-float = dot-is S S (record { width = refl; height = refl }) refl
 
   pub found-zero : le (dot_f p p) plus_zero ≡ true → energy p ≡ pos 0
   found-zero t = at-most-zero (energy p) (not_negative p) energy-small (ap (λ (x : Float). le x plus_zero) energy-float ∙ t)

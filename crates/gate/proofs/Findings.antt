@@ -1,5 +1,5 @@
 -- What each gate finds, from the tests that its code makes: one law for each way through. Assumes nothing.
-use Rattle.std.proofs.Common.{◌≡◌, ℕ, ◌*◌, ◌<◌, ◌≤◌, Bool, true, false, cond, ◌∙◌, le-ltb, lt-ltb, eq-eqb, ne_eqb}
+use Rattle.std.proofs.Common.{◌≡◌, ℕ, ◌*◌, ◌<◌, ◌≤◌, Bool, true, false, cond, Err, ◌∙◌, le-ltb, lt-ltb, eq-eqb, ne_eqb}
 use lib.Ieee.{Float, binary64, div, le}
 use Rattle.laws.specs.Constants.{three_quarters}
 use Rattle.laws.specs.Scaled.{plus_zero}
@@ -8,27 +8,23 @@ use Rattle.noise.specs.Noise.{Pair}
 use Rattle.noise.specs.Steps.{dot_f, lag_f}
 use Rattle.noise.proofs.Steps.{lag-window}
 use Rattle.gate.specs.RowCorrelation.{row_correlation}
-use Rattle.gate.specs.Tests.{time_test, temporal_by, second_finding, luma_row, luma_by, luma_finding, chroma_by, chroma_finding}
-use Rattle.gate.specs.declared.finding.Finding.{Finding}
-use Rattle.gate.specs.declared.finding.Finding.TheVariants.{LowSigma, EmptyPlane, NoEnergyFirst, RowCorrelated, NoEnergySecond, TimeCorrelated, Passed}
+use Rattle.gate.specs.Tests.{Finding, Passed, time_test, temporal_by, second_finding, luma_row, luma_by, luma_finding, chroma_by, chroma_finding}
+use Rattle.gate.specs.declared.finding.Failure.TheVariants.{LowSigma, EmptyPlane, NoEnergyFirst, RowCorrelated, TimeCorrelated}
 
 -- the tests on the second frame
 module _ (p q : Pair) (e₁ : Float) (second : e₁ ≡ dot_f q q) where
-  pub second_none : le e₁ plus_zero ≡ true → NoEnergySecond ≡ second_finding p q
-  second_none t = rw (← second, t)
-
-  pub second_is : le e₁ plus_zero ≡ false → {cross e₀ : Float} (b : Bool) → cross ≡ dot_f p q → e₀ ≡ dot_f p p → b ≡ time_test cross e₀ e₁ → cond b Passed TimeCorrelated ≡ second_finding p q
+  pub second_is : le e₁ plus_zero ≡ false → {cross e₀ : Float} (b : Bool) → cross ≡ dot_f p q → e₀ ≡ dot_f p p → b ≡ time_test cross e₀ e₁ → cond b Passed (Err TimeCorrelated) ≡ second_finding p q
   unfolding temporal_by
   second_is some b c x t = rw (← second, some, ← c, ← x, t)
 
 -- the luma gate, n the sigma16
 module _ (sigma16 : ℕ) (p q : Pair) (n : ℕ) (is : n ≡ sigma16) where
-  pub luma-low : n < 16 → LowSigma ≡ luma_finding sigma16 p q
+  pub luma-low : n < 16 → (Err LowSigma) ≡ luma_finding sigma16 p q
   unfolding luma_by
   luma-low l = rw (← is, lt-ltb n 16 l)
 
   module _ (high : 16 ≤ n) (e₀ : Float) (first : e₀ ≡ dot_f p p) where
-    pub luma-first : le e₀ plus_zero ≡ true → NoEnergyFirst ≡ luma_finding sigma16 p q
+    pub luma-first : le e₀ plus_zero ≡ true → (Err NoEnergyFirst) ≡ luma_finding sigma16 p q
     unfolding luma_by
     luma-first t = rw (← is, le-ltb n 16 high, ← first, t)
 
@@ -37,7 +33,7 @@ module _ (sigma16 : ℕ) (p q : Pair) (n : ℕ) (is : n ≡ sigma16) where
       unfolding luma_row
       row = size ∙ (λ i. magnitude_of (div binary64 ((lagged ∙ lag-window p 1) i) e₀))
 
-      pub luma-row : le three_quarters m ≡ true → RowCorrelated ≡ luma_finding sigma16 p q
+      pub luma-row : le three_quarters m ≡ true → (Err RowCorrelated) ≡ luma_finding sigma16 p q
       unfolding luma_by
       luma-row t = rw (← is, le-ltb n 16 high, ← first, some, ← row, t)
 
@@ -47,22 +43,22 @@ module _ (sigma16 : ℕ) (p q : Pair) (n : ℕ) (is : n ≡ sigma16) where
 
 -- the chroma gate
 module _ (sigma16 : ℕ) (p q : Pair) where
-  pub chroma-low : sigma16 < 8 → LowSigma ≡ chroma_finding sigma16 p q
+  pub chroma-low : sigma16 < 8 → (Err LowSigma) ≡ chroma_finding sigma16 p q
   unfolding chroma_by
   chroma-low l = rw (lt-ltb sigma16 8 l)
 
   module _ (high : 8 ≤ sigma16) where
-    pub chroma-empty : p.width * p.height ≡ 0 → EmptyPlane ≡ chroma_finding sigma16 p q
+    pub chroma-empty : p.width * p.height ≡ 0 → (Err EmptyPlane) ≡ chroma_finding sigma16 p q
     unfolding chroma_by
     chroma-empty z = rw (le-ltb sigma16 8 high, eq-eqb (p.width * p.height) 0 z)
 
     module _ (filled : p.width * p.height ≡ 0 → ⊥) (m : Float) (row : m ≡ magnitude_of (row_correlation p 1)) where
-      pub chroma-row : le three_quarters m ≡ true → RowCorrelated ≡ chroma_finding sigma16 p q
+      pub chroma-row : le three_quarters m ≡ true → (Err RowCorrelated) ≡ chroma_finding sigma16 p q
       unfolding chroma_by
       chroma-row t = rw (le-ltb sigma16 8 high, ne_eqb (p.width * p.height) 0 filled, ← row, t)
 
       module _ (apart : le three_quarters m ≡ false) (e₀ : Float) (first : e₀ ≡ dot_f p p) where
-        pub chroma-first : le e₀ plus_zero ≡ true → NoEnergyFirst ≡ chroma_finding sigma16 p q
+        pub chroma-first : le e₀ plus_zero ≡ true → (Err NoEnergyFirst) ≡ chroma_finding sigma16 p q
         unfolding chroma_by
         chroma-first t = rw (le-ltb sigma16 8 high, ne_eqb (p.width * p.height) 0 filled, ← row, apart, ← first, t)
 

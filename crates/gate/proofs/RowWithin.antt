@@ -1,5 +1,5 @@
 -- "The answer is a refusal number or an f64, and lies from −1 to 1." Its sums are exact, and the products add up to no more than the energy. Assumes nothing.
-use Rattle.std.proofs.Common.{◌≡◌, ℕ, zero, suc, ◌<◌, Bool, true, false, cond, not, ◌||◌, T, eqb, leb, List, ℤ, pos, negsuc, nat_abs, ◌≤ℤ◌, sym, refl, ap, ◌∙◌, subst, zero-lt-suc, arith}
+use Rattle.std.proofs.Common.{Ok, ◌≡◌, ℕ, zero, suc, ◌<◌, Bool, true, false, cond, not, ◌||◌, T, eqb, leb, List, ℤ, pos, negsuc, nat_abs, ◌≤ℤ◌, sym, refl, ap, ◌∙◌, subst, zero-lt-suc, arith}
 use lib.Dec.{nleb→lt}
 use lib.Ieee.{Float, binary64, div, le, of_bits, round}
 use Rattle.laws.specs.Scaled.{plus_zero, of_scaled}
@@ -13,7 +13,6 @@ use Rattle.noise.specs.Steps.{lag_f}
 use Rattle.noise.proofs.SeenCalls.{pair-seen}
 use Rattle.gate.specs.RowCorrelation.{energy_f, energy, row_correlation}
 use Rattle.gate.specs.Answers.{rho, rho_answer}
-use Rattle.gate.specs.declared.Rho.TheVariants.{Value}
 use Rattle.gate.proofs.PlaneSums.{lagged-is}
 use Rattle.gate.proofs.EnergyZero.{energy-dot, not_negative, energy-small, energy-float, found_some}
 use Rattle.gate.proofs.Energy.{lagged-within}
@@ -66,11 +65,11 @@ module _ {v : View} {s d : List ℕ} (S : Seen v s d) (lag : ℕ) where
       go false false false false l e = quotient (l tt) e
 
 -- what the call answers, where it is no refusal
-pub answer-within : (s d : List ℕ) (w h lag depth : ℕ) (x : Float) → rho_answer s d w h lag depth ≡ Value x → AtMostOne x
+pub answer-within : (s d : List ℕ) (w h lag depth : ℕ) (x : Float) → rho_answer s d w h lag depth ≡ Ok x → AtMostOne x
 unfolding rho_answer
 answer-within s d w h lag depth x e = go (pair_refusal w h depth s d) refl e
   where
-    go : (n : ℕ) → pair_refusal w h depth s d ≡ n → rho n (row_correlation (seen (whole w h) s d) lag) ≡ Value x → AtMostOne x
+    go : (n : ℕ) → pair_refusal w h depth s d ≡ n → rho n (row_correlation (seen (whole w h) s d) lag) ≡ Ok x → AtMostOne x
     go zero a v =
         let f : row_correlation (seen (whole w h) s d) lag ≡ x = cc in
         subst AtMostOne f (row_within (pair-seen w h depth s d a) lag)

@@ -1,5 +1,5 @@
 -- Both gates find the same where `dot` starts its sums at minus zero, as the Rust's `sum()` does: only the sign of a sum that is zero can differ, an energy of either ends a gate, and of the cross sum the magnitude is taken. Assumes nothing.
-use Rattle.std.proofs.Common.{◌≡◌, ℕ, zero, suc, ◌*◌, ◌<◌, Bool, true, false, cond, eqb, ltb, sym, refl, ap, ◌∙◌, inl, inr, zero-lt-suc, mul-pos, zero-mul}
+use Rattle.std.proofs.Common.{◌≡◌, ℕ, zero, suc, ◌*◌, ◌<◌, Bool, true, false, cond, Err, eqb, ltb, sym, refl, ap, ◌∙◌, inl, inr, zero-lt-suc, mul-pos, zero-mul}
 use lib.Ieee.{Float, nan, inf, fin, binary64, up, down, unlike, round, div, mul, le, lt, of_bits}
 use lib.Ieee.Fits.{up_pos}
 use borrow.Author.Tests.{eqb-false}
@@ -11,9 +11,8 @@ use Rattle.float.specs.Root.{root}
 use Rattle.noise.specs.Noise.{Pair, noise_f}
 use Rattle.noise.specs.Steps.{dot_from, dot_f}
 use Rattle.gate.specs.RowCorrelation.{row_correlation}
-use Rattle.gate.specs.Tests.{time_test, luma_row, temporal_by, second_by, luma_by, luma_finding, chroma_by, chroma_finding}
-use Rattle.gate.specs.declared.finding.Finding.{Finding}
-use Rattle.gate.specs.declared.finding.Finding.TheVariants.{LowSigma, EmptyPlane, NoEnergyFirst, RowCorrelated, NoEnergySecond, TimeCorrelated, Passed}
+use Rattle.gate.specs.Tests.{Finding, Passed, time_test, luma_row, temporal_by, second_by, luma_by, luma_finding, chroma_by, chroma_finding}
+use Rattle.gate.specs.declared.finding.Failure.TheVariants.{LowSigma, EmptyPlane, NoEnergyFirst, RowCorrelated, NoEnergySecond, TimeCorrelated}
 
 dot-sign : (p q : Pair) → ButZeroSign (dot_from minus_zero p q) (dot_f p q)
 unfolding dot_f
@@ -53,19 +52,19 @@ test-same e f (inr d) = rw (d.0, d.1) (ap (λ (x : Float). lt x two_fifths) (siz
 module _ (p q : Pair) where
   second-start : dot_from minus_zero p p ≡ dot_f p p → second_by (dot_from minus_zero) p q ≡ second_by dot_f p q
   unfolding temporal_by
-  second-start e = ap (λ (b : Bool). cond b NoEnergySecond (temporal_by (dot_from minus_zero) p q)) (at-most-same (dot-sign q q)) ∙ go (le (dot_f q q) plus_zero) refl
+  second-start e = ap (λ (b : Bool). cond b (Err NoEnergySecond) (temporal_by (dot_from minus_zero) p q)) (at-most-same (dot-sign q q)) ∙ go (le (dot_f q q) plus_zero) refl
     where
-      go : (b : Bool) → le (dot_f q q) plus_zero ≡ b → cond b NoEnergySecond (temporal_by (dot_from minus_zero) p q) ≡ cond b NoEnergySecond (temporal_by dot_f p q)
+      go : (b : Bool) → le (dot_f q q) plus_zero ≡ b → cond b (Err NoEnergySecond) (temporal_by (dot_from minus_zero) p q) ≡ cond b (Err NoEnergySecond) (temporal_by dot_f p q)
       go true h = refl
       go false h =
-          ap (λ (t : Bool). cond t Passed TimeCorrelated)
+          ap (λ (t : Bool). cond t Passed (Err TimeCorrelated))
           ((λ i. time_test (dot_from minus_zero p q) (e i) (above_same (dot-sign q q) h i)) ∙ test-same (dot_f p p) (dot_f q q) (dot-sign p q))
 
   -- the first's energy 0, then what follows
-  first-start : (f g : Finding) → (dot_from minus_zero p p ≡ dot_f p p → f ≡ g) → cond (le (dot_from minus_zero p p) plus_zero) NoEnergyFirst f ≡ cond (le (dot_f p p) plus_zero) NoEnergyFirst g
-  first-start f g h = ap (λ (b : Bool). cond b NoEnergyFirst f) (at-most-same (dot-sign p p)) ∙ go (le (dot_f p p) plus_zero) refl
+  first-start : (f g : Finding) → (dot_from minus_zero p p ≡ dot_f p p → f ≡ g) → cond (le (dot_from minus_zero p p) plus_zero) (Err NoEnergyFirst) f ≡ cond (le (dot_f p p) plus_zero) (Err NoEnergyFirst) g
+  first-start f g h = ap (λ (b : Bool). cond b (Err NoEnergyFirst) f) (at-most-same (dot-sign p p)) ∙ go (le (dot_f p p) plus_zero) refl
     where
-      go : (b : Bool) → le (dot_f p p) plus_zero ≡ b → cond b NoEnergyFirst f ≡ cond b NoEnergyFirst g
+      go : (b : Bool) → le (dot_f p p) plus_zero ≡ b → cond b (Err NoEnergyFirst) f ≡ cond b (Err NoEnergyFirst) g
       go true e = refl
       go false e = h (above_same (dot-sign p p) e)
 
@@ -73,11 +72,11 @@ module _ (p q : Pair) where
     pub luma-start : luma_by (dot_from minus_zero) sigma16 p q ≡ luma_finding sigma16 p q
     unfolding luma_by
     luma-start =
-        ap (cond (ltb sigma16 16) LowSigma)
-        (first-start _ _ (λ e. λ i. cond (le three_quarters (magnitude_of (luma_row p (e i)))) RowCorrelated (second-start e i)))
+        ap (cond (ltb sigma16 16) (Err LowSigma))
+        (first-start _ _ (λ e. λ i. cond (le three_quarters (magnitude_of (luma_row p (e i)))) (Err RowCorrelated) (second-start e i)))
 
     pub chroma-start : chroma_by (dot_from minus_zero) sigma16 p q ≡ chroma_finding sigma16 p q
     unfolding chroma_by
     chroma-start =
-        ap (λ (f : Finding). cond (ltb sigma16 8) LowSigma (cond (eqb (p.width * p.height) 0) EmptyPlane (cond (le three_quarters (magnitude_of (row_correlation p 1))) RowCorrelated f)))
+        ap (λ (f : Finding). cond (ltb sigma16 8) (Err LowSigma) (cond (eqb (p.width * p.height) 0) (Err EmptyPlane) (cond (le three_quarters (magnitude_of (row_correlation p 1))) (Err RowCorrelated) f)))
         (first-start _ _ second-start)

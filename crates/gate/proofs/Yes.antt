@@ -1,5 +1,5 @@
 -- A gate says yes exactly if every test passes, in the scope's words: test by test along the definition. Assumes nothing.
-use Rattle.std.proofs.Common.{◌≡◌, ℕ, zero, suc, ◌-◌, ◌*◌, Bool, true, false, cond, eqb, ltb, List, sym, refl, ap, ◌∙◌, ltb-false, le-ltb, ne_eqb}
+use Rattle.std.proofs.Common.{◌≡◌, ℕ, zero, suc, ◌-◌, ◌*◌, Bool, true, false, cond, Err, eqb, ltb, List, sym, refl, ap, ◌∙◌, ltb-false, le-ltb, ne_eqb}
 use mathlib.Core.Bool.{false≢true}
 use lib.Ieee.{Float, le}
 use borrow.Author.Tests.{eqb-false}
@@ -17,20 +17,19 @@ use Rattle.noise.specs.Seen.{seen, Seen}
 use Rattle.noise.specs.Steps.{dot_f}
 use Rattle.noise.proofs.SeenCalls.{first-seen, second-seen}
 use Rattle.gate.specs.RowCorrelation.{row_correlation}
-use Rattle.gate.specs.Tests.{luma_row, temporal_by, luma_by, luma_finding, luma_sigma16, luma_of, chroma_by, chroma_finding, is_passed}
+use Rattle.gate.specs.Tests.{Finding, Passed, luma_row, temporal_by, luma_by, luma_finding, luma_sigma16, luma_of, chroma_by, chroma_finding, is_passed}
 use Rattle.gate.specs.Answers.{refused_gate, found_gate, luma_answer, chroma_answer}
 use Rattle.gate.specs.Passes.{LumaPasses, ChromaPasses}
 use Rattle.gate.proofs.EnergyZero.{some-found, found_some}
 use Rattle.gate.proofs.LumaRow.{luma-row}
-use Rattle.gate.specs.declared.finding.Finding.{Finding}
-use Rattle.gate.specs.declared.finding.Finding.TheVariants.{LowSigma, EmptyPlane, NoEnergyFirst, RowCorrelated, NoEnergySecond, TimeCorrelated, Passed}
+use Rattle.gate.specs.declared.finding.Failure.TheVariants.{LowSigma, EmptyPlane, NoEnergyFirst, RowCorrelated, NoEnergySecond, TimeCorrelated}
 
 -- a test that ends with a no is not met, and what follows says yes
 after : (b : Bool) (end rest : Finding) → is_passed end ≡ false → is_passed (cond b end rest) ≡ true → (b ≡ false) × (is_passed rest ≡ true)
 after true end rest n e = absurd (false≢true (sym n ∙ e))
 after false end rest n e = (refl, e)
 
-last : (b : Bool) → is_passed (cond b Passed TimeCorrelated) ≡ true → b ≡ true
+last : (b : Bool) → is_passed (cond b Passed (Err TimeCorrelated)) ≡ true → b ≡ true
 last true e = refl
 last false e = absurd (false≢true e)
 
@@ -45,10 +44,10 @@ module _ (sigma16 : ℕ) {v : View} {a b c d : List ℕ} (S : Seen v a b) (T : S
   luma-yes : is_passed (luma_finding sigma16 p q) ≡ true → LumaPasses sigma16 p q
   unfolding luma_by temporal_by
   luma-yes e =
-      let a = after (ltb sigma16 16) LowSigma _ refl e in
-      let b = after (le (dot_f p p) plus_zero) NoEnergyFirst _ refl a.1 in
-      let c = after (le three_quarters (magnitude_of (luma_row p (dot_f p p)))) RowCorrelated _ refl b.1 in
-      let d = after (le (dot_f q q) plus_zero) NoEnergySecond _ refl c.1 in
+      let a = after (ltb sigma16 16) (Err LowSigma) _ refl e in
+      let b = after (le (dot_f p p) plus_zero) (Err NoEnergyFirst) _ refl a.1 in
+      let c = after (le three_quarters (magnitude_of (luma_row p (dot_f p p)))) (Err RowCorrelated) _ refl b.1 in
+      let d = after (le (dot_f q q) plus_zero) (Err NoEnergySecond) _ refl c.1 in
       let n = found_some S b.0 in
       record {
         sigma = ltb-false sigma16 16 a.0;
@@ -65,11 +64,11 @@ module _ (sigma16 : ℕ) {v : View} {a b c d : List ℕ} (S : Seen v a b) (T : S
   chroma-yes : is_passed (chroma_finding sigma16 p q) ≡ true → ChromaPasses sigma16 p q
   unfolding chroma_by temporal_by
   chroma-yes e =
-      let a = after (ltb sigma16 8) LowSigma _ refl e in
-      let n = after (eqb (p.width * p.height) 0) EmptyPlane _ refl a.1 in
-      let c = after (le three_quarters (magnitude_of (row_correlation p 1))) RowCorrelated _ refl n.1 in
-      let b = after (le (dot_f p p) plus_zero) NoEnergyFirst _ refl c.1 in
-      let d = after (le (dot_f q q) plus_zero) NoEnergySecond _ refl b.1 in
+      let a = after (ltb sigma16 8) (Err LowSigma) _ refl e in
+      let n = after (eqb (p.width * p.height) 0) (Err EmptyPlane) _ refl a.1 in
+      let c = after (le three_quarters (magnitude_of (row_correlation p 1))) (Err RowCorrelated) _ refl n.1 in
+      let b = after (le (dot_f p p) plus_zero) (Err NoEnergyFirst) _ refl c.1 in
+      let d = after (le (dot_f q q) plus_zero) (Err NoEnergySecond) _ refl b.1 in
       record { sigma = ltb-false sigma16 8 a.0; filled = eqb-false (p.width * p.height) 0 n.0; row = c.0; first = found_some S b.0; second = found_some T d.0; time = last _ d.1 }
 
   chroma-passes : ChromaPasses sigma16 p q → is_passed (chroma_finding sigma16 p q) ≡ true

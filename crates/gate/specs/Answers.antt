@@ -1,5 +1,5 @@
 -- "The answer is a refusal number or an f64." "A refused call returns its number, with every other field of the answer zero." The answers of the calls, about what their views show.
-use Rattle.std.specs.Prelude.{ℕ, zero, suc, ◌-◌, false, List, Float}
+use Rattle.std.specs.Prelude.{ℕ, zero, suc, ◌-◌, false, List, Float, Result, Ok, Err}
 use Rattle.frame.specs.View.{whole}
 use Rattle.frame.specs.Planes.{view_of}
 use Rattle.frame.specs.Calls.{pair_refusal, gate_refusal}
@@ -8,19 +8,16 @@ use Rattle.frame.specs.declared.Shape.{Shape}
 use Rattle.frame.specs.declared.view.Component.TheVariants.{Y, CbCr}
 use Rattle.noise.specs.Seen.{seen}
 use Rattle.gate.specs.RowCorrelation.{row_correlation}
-use Rattle.gate.specs.Tests.{luma_of, chroma_finding, is_passed}
-use Rattle.gate.specs.declared.finding.Finding.{Finding}
+use Rattle.gate.specs.Tests.{Finding, luma_of, chroma_finding, is_passed}
 use Rattle.gate.specs.declared.Gate.{Gate}
-use Rattle.gate.specs.declared.Rho.{Rho}
-use Rattle.gate.specs.declared.Rho.TheVariants.{Refused, Value}
 
 -- 0 brings the value, any other number is a refusal
-abbrev pub rho : ℕ → Float → Rho
-rho zero x = Value x
-rho (suc n) x = Refused (suc n)
+abbrev pub rho : ℕ → Float → Result Float ℕ
+rho zero x = Ok x
+rho (suc n) x = Err (suc n)
 
 -- `lag_h_rho`
-unfoldable pub rho_answer : List ℕ → List ℕ → ℕ → ℕ → ℕ → ℕ → Rho
+unfoldable pub rho_answer : List ℕ → List ℕ → ℕ → ℕ → ℕ → ℕ → Result Float ℕ
 rho_answer source denoised w h lag depth = rho (pair_refusal w h depth source denoised) (row_correlation (seen (whole w h) source denoised) lag)
 
 -- a gate's answer where it is refused, and from what it finds where it is accepted

@@ -3,6 +3,7 @@ pub mod RowCorrelation
 pub mod OnePass
 pub mod Tests
 pub mod Answers
+pub mod Record
 pub mod Passes
 pub mod AtMostOne
 pub mod Demand

@@ -6,19 +6,16 @@ mod row_correlation;
 mod sums;
 
 ghost use Rattle.std.specs.Prelude.{◌≡◌};
-ghost use Rattle.gate.specs.Answers.{rho_answer, refused_gate, found_gate, luma_answer, chroma_answer};
+ghost use Rattle.frame.specs.Refusal.{numbered};
+ghost use Rattle.noise.specs.PlanePair.{shown};
+ghost use Rattle.noise.specs.Seen.{seen, Seen};
+ghost use Rattle.gate.specs.Answers.{rho_answer, luma_answer, chroma_answer};
+ghost use Rattle.gate.specs.Record.{record_of};
 
-use finding::Finding;
-use frame::{Component, Shape, View};
+use frame::{Component, Pair, Refusal, Shape, View};
+use noise::PlanePair;
 
-// What the row correlation answers: the number of a refusal, or an f64 from -1 to 1.
-#[derive(Clone, Copy)]
-pub enum Rho {
-    Refused(u32),
-    Value(f64),
-}
-
-// What a gate answers.
+// What a gate answers, as C has it.
 #[repr(C)]
 #[derive(Clone, Copy)]
 pub struct Gate {
@@ -26,73 +23,71 @@ pub struct Gate {
     pub yes: bool,
 }
 
-// Σ n(r, c) × n(r, c + lag) / Σ n(r, c)², n the noise; 0.0 where there is nothing to divide.
+impl From<Result<bool, Refusal>> for Gate {
+    ghost use Rattle.std.specs.Prelude.{◌≡◌};
+    ghost use Rattle.gate.specs.Record.{record_of};
+
+    ghost from_gives = { λ answer r. r ≡ record_of answer };
+
+    fn from(answer: Result<bool, Refusal>) -> Gate {
+        match answer {
+            Ok(yes) => Gate { refusal: 0, yes },
+            Err(refusal) => Gate {
+                refusal: refusal.into(),
+                yes: false,
+            },
+        }
+    }
+}
+
+// A plane and its copy, as a view shows them.
+fn seen(pair: Pair<'_>, view: View) -> PlanePair<'_>
+    requires { Seen view pair.source.now pair.denoised.now }
+    ensures shows { shown result ≡ seen view pair.entry.source.now pair.entry.denoised.now }
+    ensures view { result.view ≡ view }
+{
+    PlanePair {
+        source: pair.source,
+        denoised: pair.denoised,
+        view,
+    }
+}
+
+// Σ n(r, c) × n(r, c + lag) / Σ n(r, c)², n the noise: from -1 to 1; 0.0 where there is nothing to divide.
 pub fn lag_h_rho(
-    src: &[u16],
-    den: &[u16],
+    pair: Pair<'_>,
     width: usize,
     height: usize,
     lag: usize,
     depth: u8,
-) -> Rho
-    ensures { result ≡ rho_answer src.now den.now width height lag depth }
+) -> Result<f64, Refusal>
+    ensures { numbered result ≡ rho_answer pair.entry.source.now pair.entry.denoised.now width height lag depth }
 {
-    let n = frame::pair_refusal(src, den, width, height, depth);
-    if n != 0 {
-        return Rho::Refused(n);
-    }
-    let view = View::whole(width, height);
-    Rho::Value(row_correlation::row_correlation(src, den, view, lag))
-}
-
-// The answer of a gate that is refused: its number, and no.
-fn refused_gate(n: u32) -> Gate
-    ensures { result ≡ refused_gate n }
-{
-    Gate {
-        refusal: n,
-        yes: false,
-    }
-}
-
-// The answer of a gate that is accepted: yes if every test passed.
-fn found_gate(found: Finding) -> Gate
-    ensures { result ≡ found_gate found }
-{
-    Gate {
-        refusal: 0,
-        yes: finding::is_passed(found),
-    }
+    frame::ask_pair(pair, width, height, depth)?;
+    let plane = seen(pair, View::whole(width, height));
+    Ok(row_correlation::row_correlation(&plane, lag))
 }
 
 // Whether the luma of two frames carries grain: the tests of the luma gate, in their order.
-pub fn film_grain_probe(s: Shape, src0: &[u16], den0: &[u16], src1: &[u16], den1: &[u16]) -> Gate
-    ensures { result ≡ luma_answer s src0.now den0.now src1.now den1.now }
+pub fn film_grain_probe(s: Shape, first: Pair<'_>, second: Pair<'_>) -> Result<bool, Refusal>
+    ensures { record_of result ≡ luma_answer s first.entry.source.now first.entry.denoised.now second.entry.source.now second.entry.denoised.now }
 {
-    let n = frame::gate_refusal(s, Component::Y, src0, den0, src1, den1);
-    if n != 0 {
-        return refused_gate(n);
-    }
+    frame::ask_gate(s, Component::Y, first, second)?;
     let view = frame::view_of(s, Component::Y);
     let shift = (s.depth - 8) as u32;
-    found_gate(finding::luma_finding(src0, den0, src1, den1, view, shift))
+    Ok(finding::luma_finding(&seen(first, view), &seen(second, view), shift).is_ok())
 }
 
 // Whether one chroma component of two frames carries grain: the tests of the chroma gate, in their order.
 pub fn chroma_noise_gate(
     s: Shape,
-    src0: &[u16],
-    den0: &[u16],
-    src1: &[u16],
-    den1: &[u16],
+    first: Pair<'_>,
+    second: Pair<'_>,
     sigma16: u64,
-) -> Gate
-    ensures { result ≡ chroma_answer s src0.now den0.now src1.now den1.now sigma16 }
+) -> Result<bool, Refusal>
+    ensures { record_of result ≡ chroma_answer s first.entry.source.now first.entry.denoised.now second.entry.source.now second.entry.denoised.now sigma16 }
 {
-    let n = frame::gate_refusal(s, Component::CbCr, src0, den0, src1, den1);
-    if n != 0 {
-        return refused_gate(n);
-    }
+    frame::ask_gate(s, Component::CbCr, first, second)?;
     let view = frame::view_of(s, Component::CbCr);
-    found_gate(finding::chroma_finding(sigma16, src0, den0, src1, den1, view))
+    Ok(finding::chroma_finding(sigma16, &seen(first, view), &seen(second, view)).is_ok())
 }

@@ -1,10 +1,11 @@
 // The sums of a gate: each is worked exactly in whole numbers, and turned into an f64 once where the Rust has an f64.
 ghost use Rattle.std.specs.Prelude.{◌≡◌, ◌*◌, ◌<◌, ◌≤◌};
 ghost use Rattle.laws.specs.Limits.{side_limit};
-ghost use Rattle.noise.specs.Seen.{seen, Seen};
+ghost use Rattle.noise.specs.PlanePair.{shown, SameSize};
 ghost use Rattle.gate.specs.FrameSums.{FirstSumsOf, SecondSumsOf};
 
 use frame::View;
+use noise::PlanePair;
 
 // Of a noise n: Σ (n >> shift)², Σ n² and Σ n(r, c) × n(r, c + lag).
 #[derive(Clone, Copy)]
@@ -30,27 +31,27 @@ pub fn samples(view: View) -> usize
 }
 
 // The sums of the first frame's plane.
-pub fn of_plane(src: &[u16], den: &[u16], view: View, lag: usize, shift: u32) -> FirstSums
-    requires { Seen view src.now den.now × (lag ≤ view.width) × (shift < 16) }
-    ensures { FirstSumsOf (seen view src.now den.now) lag shift result }
+pub fn of_plane(pair: &PlanePair, lag: usize, shift: u32) -> FirstSums
+    requires lag { lag ≤ pair.now.view.width }
+    requires shift { shift < 16 }
+    ensures { FirstSumsOf (shown pair.now) lag shift result }
 {
-    let sums = noise::plane_sums(src, den, view, lag, shift);
-    let energy = std::num::nearest_i64_to_f64(sums.energy);
-    let lagged = std::num::nearest_i64_to_f64(sums.lagged);
+    let sums = noise::plane_sums(pair, lag, shift);
     FirstSums {
         squares: sums.squares as u64,
-        energy,
-        lagged,
+        energy: std::num::nearest_i64_to_f64(sums.energy),
+        lagged: std::num::nearest_i64_to_f64(sums.lagged),
     }
 }
 
 // The sums of the second frame's plane, and of both.
-pub fn of_pair(src0: &[u16], den0: &[u16], src1: &[u16], den1: &[u16], view: View) -> SecondSums
-    requires { Seen view src0.now den0.now × Seen view src1.now den1.now }
-    ensures { SecondSumsOf (seen view src0.now den0.now) (seen view src1.now den1.now) result }
+pub fn of_pair(first: &PlanePair, second: &PlanePair) -> SecondSums
+    requires { SameSize first.now.view second.now.view }
+    ensures { SecondSumsOf (shown first.now) (shown second.now) result }
 {
-    let sums = noise::pair_sums(src0, den0, src1, den1, view);
-    let second = std::num::nearest_i64_to_f64(sums.second);
-    let cross = std::num::nearest_i64_to_f64(sums.cross);
-    SecondSums { second, cross }
+    let sums = noise::pair_sums(first, second);
+    SecondSums {
+        second: std::num::nearest_i64_to_f64(sums.second),
+        cross: std::num::nearest_i64_to_f64(sums.cross),
+    }
 }

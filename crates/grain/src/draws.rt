@@ -1,12 +1,14 @@
 // The seed of a frame's grain, and the random register.
 ghost use Rattle.std.specs.Prelude.{◌≡◌};
 ghost use Rattle.random.specs.Seed.{seed};
-ghost use Rattle.random.specs.Register.{step};
+ghost use Rattle.frame.specs.Refusal.{numbered};
+ghost use Rattle.random.specs.Register.{step, step_of};
 ghost use Rattle.grain.specs.Records.{of_draw, of_stepped, of_next};
 
-use random::{Draw, RandomRegister};
+use frame::Refusal;
+use random::{RandomRegister, Stepped};
 
-// `Draw` as a record.
+// A draw as a record.
 #[repr(C)]
 #[derive(Clone, Copy)]
 pub struct DrawRecord {
@@ -23,18 +25,30 @@ pub struct StepRecord {
     pub after: RandomRegister,
 }
 
-fn record_of(draw: Draw) -> DrawRecord
-    ensures { result ≡ of_draw draw }
-{
-    match draw {
-        Draw::Refused(n) => DrawRecord {
-            refusal: n,
-            value: 0,
-        },
-        Draw::Value(x) => DrawRecord {
-            refusal: 0,
-            value: x,
-        },
+impl From<Result<u32, Refusal>> for DrawRecord {
+    ghost from_gives = { λ draw answer. answer ≡ of_draw (numbered draw) };
+
+    fn from(draw: Result<u32, Refusal>) -> Self {
+        match draw {
+            Ok(value) => Self { refusal: 0, value },
+            Err(refusal) => Self {
+                refusal: refusal.into(),
+                value: 0,
+            },
+        }
+    }
+}
+
+impl From<Stepped> for StepRecord {
+    ghost from_gives = { λ stepped answer. answer ≡ of_stepped (step_of stepped) };
+
+    fn from(stepped: Stepped) -> Self {
+        let DrawRecord { refusal, value } = stepped.draw.into();
+        Self {
+            refusal,
+            value,
+            after: stepped.register,
+        }
     }
 }
 
@@ -56,25 +70,12 @@ pub extern "C" fn grain_random_new(seed: u16) -> RandomRegister
 pub extern "C" fn grain_random_step(register: RandomRegister, bits: u32) -> StepRecord
     ensures { result ≡ of_stepped (step register bits) }
 {
-    let s = register.stepped(bits);
-    let draw = s.draw;
-    let d = record_of(draw);
-    let after = s.register;
-    StepRecord {
-        refusal: d.refusal,
-        value: d.value,
-        after,
-    }
+    register.stepped(bits).into()
 }
 
 #[unsafe(no_mangle)]
 pub extern "C" fn grain_random_next(register: &mut RandomRegister, bits: u32) -> DrawRecord
     ensures { (result, register.new) ≡ of_next (step register.old bits) }
 {
-    let s = grain_random_step(*register, bits);
-    *register = s.after;
-    DrawRecord {
-        refusal: s.refusal,
-        value: s.value,
-    }
+    register.next(bits).into()
 }

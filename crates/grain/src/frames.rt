@@ -4,8 +4,10 @@ ghost use Rattle.denoise.specs.Calls.{planes, frame_outcome};
 ghost use Rattle.profile.specs.Answers.{estimate_answer};
 ghost use Rattle.chroma_correlation.specs.Answer.{corr_answer};
 
+use crate::frame_pair;
 use chroma_correlation::ChromaCorr;
-use frame::Shape;
+use denoise::PlanesMut;
+use frame::{Planes, Shape};
 use profile::NoiseEstimate;
 
 #[unsafe(no_mangle)]
@@ -20,7 +22,13 @@ pub extern "C" fn grain_denoise_frame(
 ) -> u32
     ensures { (result, planes yout.new cbout.new crout.new) ≡ frame_outcome s (planes y.now cb.now cr.now) (planes yout.old cbout.old crout.old) }
 {
-    denoise::denoise_frame(s, y, cb, cr, yout, cbout, crout)
+    let source = Planes { y, cb, cr };
+    let into = PlanesMut {
+        y: yout,
+        cb: cbout,
+        cr: crout,
+    };
+    crate::number_of(denoise::denoise_frame(s, &source, into))
 }
 
 #[unsafe(no_mangle)]
@@ -35,7 +43,7 @@ pub extern "C" fn grain_noise_estimate(
 ) -> NoiseEstimate
     ensures { result ≡ estimate_answer s y.now cb.now cr.now yden.now cbden.now crden.now }
 {
-    profile::noise_estimate(s, y, cb, cr, yden, cbden, crden)
+    profile::noise_estimate(s, &frame_pair(y, cb, cr, yden, cbden, crden)).into()
 }
 
 #[unsafe(no_mangle)]
@@ -50,5 +58,5 @@ pub extern "C" fn grain_fit_chroma_corr(
 ) -> ChromaCorr
     ensures { result ≡ corr_answer s y.now cb.now cr.now yden.now cbden.now crden.now }
 {
-    chroma_correlation::fit_chroma_corr(s, y, cb, cr, yden, cbden, crden)
+    chroma_correlation::fit_chroma_corr(s, &frame_pair(y, cb, cr, yden, cbden, crden)).into()
 }

@@ -3,10 +3,10 @@ ghost use Rattle.std.specs.Prelude.{◌≡◌};
 ghost use Rattle.gate.specs.Answers.{rho_answer, luma_answer, chroma_answer};
 ghost use Rattle.grain.specs.Records.{of_rho};
 
-use frame::Shape;
-use gate::{Gate, Rho};
+use frame::{Pair, Refusal, Shape};
+use gate::Gate;
 
-// `Rho` as a record.
+// The row correlation, as C has it.
 #[repr(C)]
 #[derive(Clone, Copy)]
 pub struct RhoRecord {
@@ -14,18 +14,21 @@ pub struct RhoRecord {
     pub value: f64,
 }
 
-fn record_of(rho: Rho) -> RhoRecord
-    ensures { result ≡ of_rho rho }
-{
-    match rho {
-        Rho::Refused(n) => RhoRecord {
-            refusal: n,
-            value: 0.0,
-        },
-        Rho::Value(x) => RhoRecord {
-            refusal: 0,
-            value: x,
-        },
+impl From<Result<f64, Refusal>> for RhoRecord {
+    ghost use Rattle.std.specs.Prelude.{◌≡◌};
+    ghost use Rattle.frame.specs.Refusal.{numbered};
+    ghost use Rattle.grain.specs.Records.{of_rho};
+
+    ghost from_gives = { λ answer r. r ≡ of_rho (numbered answer) };
+
+    fn from(answer: Result<f64, Refusal>) -> RhoRecord {
+        match answer {
+            Ok(value) => RhoRecord { refusal: 0, value },
+            Err(refusal) => RhoRecord {
+                refusal: refusal.into(),
+                value: 0.0,
+            },
+        }
     }
 }
 
@@ -40,7 +43,11 @@ pub extern "C" fn grain_lag_h_rho(
 ) -> RhoRecord
     ensures { result ≡ of_rho (rho_answer src.now den.now width height lag depth) }
 {
-    record_of(gate::lag_h_rho(src, den, width, height, lag, depth))
+    let pair = Pair {
+        source: src,
+        denoised: den,
+    };
+    gate::lag_h_rho(pair, width, height, lag, depth).into()
 }
 
 #[unsafe(no_mangle)]
@@ -53,7 +60,15 @@ pub extern "C" fn grain_film_grain_probe(
 ) -> Gate
     ensures { result ≡ luma_answer s src0.now den0.now src1.now den1.now }
 {
-    gate::film_grain_probe(s, src0, den0, src1, den1)
+    let first = Pair {
+        source: src0,
+        denoised: den0,
+    };
+    let second = Pair {
+        source: src1,
+        denoised: den1,
+    };
+    gate::film_grain_probe(s, first, second).into()
 }
 
 #[unsafe(no_mangle)]
@@ -67,5 +82,13 @@ pub extern "C" fn grain_chroma_noise_gate(
 ) -> Gate
     ensures { result ≡ chroma_answer s src0.now den0.now src1.now den1.now sigma16 }
 {
-    gate::chroma_noise_gate(s, src0, den0, src1, den1, sigma16)
+    let first = Pair {
+        source: src0,
+        denoised: den0,
+    };
+    let second = Pair {
+        source: src1,
+        denoised: den1,
+    };
+    gate::chroma_noise_gate(s, first, second, sigma16).into()
 }

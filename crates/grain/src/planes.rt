@@ -3,6 +3,7 @@ ghost use Rattle.std.specs.Prelude.{◌≡◌};
 ghost use Rattle.denoise.specs.Calls.{plane_outcome};
 ghost use Rattle.profile.specs.Answers.{sigma_answer};
 
+use frame::Pair;
 use profile::Sigma;
 
 #[unsafe(no_mangle)]
@@ -14,7 +15,7 @@ pub extern "C" fn grain_denoise_plane(
 ) -> u32
     ensures { (result, dst.new) ≡ plane_outcome src.now dst.old width height }
 {
-    denoise::denoise_plane(src, dst, width, height)
+    crate::number_of(denoise::denoise_plane(src, dst, width, height))
 }
 
 #[unsafe(no_mangle)]
@@ -27,5 +28,9 @@ pub extern "C" fn grain_plane_sigma16(
 ) -> Sigma
     ensures { result ≡ sigma_answer width height depth src.now den.now }
 {
-    profile::plane_sigma16(src, den, width, height, depth)
+    let plane = Pair {
+        source: src,
+        denoised: den,
+    };
+    profile::plane_sigma16(plane, width, height, depth).into()
 }

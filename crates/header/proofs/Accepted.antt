@@ -5,23 +5,22 @@ use mathlib.Core.List.{List, ◌++◌}
 use mathlib.Core.Logic.{◌↔◌}
 use Prim.Native.Nat.{ℕ, zero, suc, ◌+◌, ◌-◌, ◌^◌, ◌<◌, ◌≤◌}
 use native.Mathlib.Omega.{arith}
-use native.Mathlib.Numerals.{add-one}
 use lib.Dec.{ltb, eqb}
-use lib.ListN.{get_or}
 use lib.Pow.{pow_pos}
-use borrow.Author.Tests.{ltb-true, ltb-false, lt-ltb, le-ltb, ne_eqb}
+use borrow.Author.Tests.{ltb-false, lt-ltb, le-ltb, ne_eqb}
 use Rattle.laws.specs.Limits.{neighbour_limit, order_limit}
 use Rattle.positions.proofs.Filter.{luma-most}
 use Rattle.header.specs.Record.{FilmGrainParams}
 use Rattle.header.specs.declared.counts.Counts.{Counts}
 use Rattle.header.specs.Row.{limited, raised, field, bit, All}
-use Rattle.header.specs.Text.{monochrome, yuv420, coded, chroma, y_points_of, luma_coeffs, chroma_coeffs, counts_of, point, points, coeff, coeffs, opening, luma_part, chroma_part, filter_part, closing, table, rows}
+use Rattle.header.specs.Text.{monochrome, yuv420, coded, chroma, y_points_of, luma_coeffs, chroma_coeffs, counts_of, points, coeffs, opening, luma_part, chroma_part, filter_part, closing, table, rows}
 use Rattle.header.specs.Bits.{all_allowed}
 use Rattle.header.specs.Allowed.{Allowed}
-use Rattle.header.specs.Semantics.{Rising, Bytes, PointLimits, MixLimits, Limits}
-use Rattle.header.specs.Skipped.{Past, PointsReset, MixReset, AsReset}
-use Rattle.header.proofs.Folds.{all_append, all-each}
+use Rattle.header.specs.Semantics.{PointLimits, MixLimits, Limits}
+use Rattle.header.specs.Skipped.{PointsReset, MixReset, AsReset}
+use Rattle.header.proofs.Folds.{all_append}
 use Rattle.header.proofs.Causes.{rows-allowed}
+use Rattle.header.proofs.Listed.{coeffs-allowed, points-allowed}
 
 -- ---- a row
 
@@ -108,62 +107,6 @@ cr-kept : (subsampled present : Bool) (cb cr : ℕ) → (present ≡ false → c
     → Allowed (limited 4 present (bit (subsampled && ltb 0 (cond present cb 0))) (cond (subsampled && eqb (cond present cb 0) 0) 0 10) cr)
     ↔ (Allowed (limited 4 present 0 10 cr) × (subsampled ≡ true → (cb ≡ 0) ↔ (cr ≡ 0)))
 cr-kept subsampled present cb cr z = rw (number-kept present cb z) (cr-allowed subsampled present cb cr z)
-
--- the places of an array, of which the syntax has n
-module _ (places n : ℕ) (l : List ℕ) (least : ℕ → ℕ) where
-  places-allowed : n ≤ places
-      → ((i : ℕ) → i < places → Allowed (limited 8 (ltb i n) (least i) 255 (get_or l i 0)))
-      ↔ (((i : ℕ) → i < n → least i ≤ get_or l i 0) × (Bytes n l × Past n places l))
-  places-allowed m = (
-    λ a. (
-      λ i k. ((a i (omega arith)).kept (lt-ltb i n k)).0,
-      (λ i k. let q = ((a i (omega arith)).kept (lt-ltb i n k)).1 in omega arith, λ i k o. (a i o).skipped (le-ltb i n k)),
-    ),
-    λ h i o. record {
-      kept = λ e. let k = ltb-true i n e in (h.0 i k, let q = h.1.0 i k in omega arith);
-      skipped = λ e. h.1.1 i (ltb-false i n e) o;
-    },
-  )
-
--- a plane's coefficients
-coeffs-allowed : (places n : ℕ) (l : List ℕ) → n ≤ places → All Allowed (coeffs places n l) ↔ (Bytes n l × Past n places l)
-unfolding coeffs coeff
-coeffs-allowed places n l m =
-    let q = all-each Allowed places (coeff n l) in
-    let r = places-allowed places n l (λ i. 0) m in
-    (λ h. (r.0 (λ i o. (q.0 h i o).0)).1, λ h. q.1 (λ i o. (r.1 (λ j k. omega arith, h) i o, tt)))
-
--- one above the last, or the first
-module _ (n : ℕ) (values : List ℕ) where
-  abbrev above : ℕ → ℕ
-  above i = cond (eqb i 0) 0 (get_or values (i - 1) 0 + 1)
-
-  above-next : (i : ℕ) → above (i + 1) ≡ get_or values i 0 + 1
-  above-next i =
-      let first : eqb (i + 1) 0 ≡ false = ne_eqb (i + 1) 0 (λ e. absurd (omega arith)) in
-      let last : i + 1 - 1 ≡ i = omega arith in
-      rw (first, last)
-
-  rising-places : ((i : ℕ) → i < n → above i ≤ get_or values i 0) ↔ Rising n values
-  rising-places = (λ h i k. let q = h (i + 1) k in omega (arith, above-next i), to)
-    where
-      to : Rising n values → (i : ℕ) → i < n → above i ≤ get_or values i 0
-      to r zero k = omega arith
-      to r (suc i) k = rw (← add-one i, above-next i) (omega (arith, r i (omega arith)))
-
--- a plane's points
-points-allowed : (places n : ℕ) (values scalings : List ℕ) → n ≤ places
-    → All Allowed (points places n values scalings)
-    ↔ ((Rising n values × (Bytes n values × Past n places values)) × (Bytes n scalings × Past n places scalings))
-unfolding points point
-points-allowed places n values scalings m =
-    let q = all-each Allowed places (point n values scalings) in
-    let v = places-allowed places n values (above n values) m in
-    let s = places-allowed places n scalings (λ i. 0) m in
-    let r = rising-places n values in (
-      λ h. let k = v.0 (λ i o. (q.0 h i o).0) in ((r.0 k.0, k.1), (s.0 (λ i o. (q.0 h i o).1.0)).1),
-      λ h. q.1 (λ i o. (v.1 (r.1 h.0.0, h.0.1) i o, (s.1 (λ j k. omega arith, h.1) i o, tt))),
-    )
 
 -- a plane's number of points, and its points
 plane-allowed : (present : Bool) (places n : ℕ) (values scalings : List ℕ)

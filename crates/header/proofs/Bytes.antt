@@ -1,29 +1,41 @@
 -- A record in bytes: its fields with its lists are the record, and all after the slot is 0 where bytes 6 to 165 are. Assumes nothing.
 use mathlib.Core.Path.{◌≡◌, refl, sym, ◌∙◌}
-use mathlib.Core.Bool.{Bool, true, false, not, ◌&&◌, and-true, and_assoc}
+use mathlib.Core.Bool.{Bool, true, false, not, ◌&&◌, and-true, and_assoc, and-eq-true_iff}
 use mathlib.Core.List.{List}
-use Prim.Native.Nat.{ℕ, zero, suc, ◌+◌, ◌-◌, ◌*◌, ◌<◌, ◌≤◌}
+use mathlib.Core.Logic.{◌↔◌, ⊎_elim}
+use Prim.Native.Nat.{ℕ, zero, suc, ◌+◌, ◌*◌, ◌<◌, ◌≤◌}
 use native.Mathlib.Omega.{arith}
-use native.Mathlib.Nat.{add_assoc}
+use native.Mathlib.Nat.{add_assoc, eq-or-lt_of_le}
 use native.Mathlib.Numerals.{add-one}
 use lib.Dec.{eqb}
-use lib.ListN.{get_or, drop}
-use lib.Seq.{get_or-take, get_or-drop}
+use lib.ListN.{length, get_or, take, drop, length-drop}
+use lib.Seq.{get_or-take, get_or-drop, length-take-le}
 use borrow.Author.Tests.{eqb-true, eqb-false, eq-eqb, ne_eqb}
+use Rattle.std.specs.Bool.{IsTrue}
+use Rattle.std.specs.Cmp.{both_ways}
+use Rattle.std.specs.List.{All as Each}
 use Rattle.header.specs.declared.stored.Fields.{Fields}
 use Rattle.header.specs.Stored.{items_from, stored}
-use Rattle.header.specs.Scalars.{fields_of, record_of}
+use Rattle.header.specs.declared.counts.Counts.{Counts}
+use Rattle.header.specs.Scalars.{fields_of, record_of, scalars}
 use Rattle.header.specs.Row.{Row, each}
-use Rattle.header.specs.Text.{uncoded, point, points, coeff, coeffs, rest}
+use Rattle.header.specs.Text.{uncoded, point, points, coeff, coeffs, rest, counts_of, table, rows}
 use Rattle.header.specs.Bits.{all_allowed}
 use Rattle.header.proofs.Folds.{allowed-each}
 use Rattle.header.proofs.Lists.{none_allowed, point-skipped, coeff-skipped}
+use Rattle.header.proofs.Listed.{inside}
 use Rattle.header.proofs.Short.{rest-zero}
 
 -- fields that bytes hold, put together with the lists that they hold, are the record in those bytes
 pub record_is : (f : Fields) (l : List ℕ) → f ≡ fields_of l → record_of f l ≡ stored l
 unfolding fields_of stored
 record_is f l e = rw e
+
+-- the rows of a record in bytes, by the fields and the counts that were read from it
+pub rows_are : (f : Fields) (l : List ℕ) (inter : Bool) (format : ℕ) (c : Counts) → f ≡ fields_of l → c ≡ counts_of (scalars f) format
+    → rows (stored l) inter format ≡ table (record_of f l) inter format c
+unfolding rows counts_of
+rows_are f l inter format c e q = rw (← record_is f l e, q) refl
 
 -- ---- bytes that are 0
 
@@ -32,17 +44,16 @@ unfoldable pub zeros : List ℕ → ℕ → ℕ → Bool
 zeros l a zero = true
 zeros l a (suc n) = zeros l a n && eqb (get_or l (a + n) 0) 0
 
-pub zeros-none : (l : List ℕ) (a : ℕ) → zeros l a 0 ≡ true
+-- they are as the code tests them
+zeros-all : (l : List ℕ) (a n : ℕ) → zeros l a n ≡ true ↔ ((k : ℕ) → k < n → get_or l (a + k) 0 ≡ 0)
 unfolding zeros
-zeros-none l a = refl
-
--- the next byte, from byte 6 on
-pub zeros-more : (l : List ℕ) (i : ℕ) → 6 ≤ i → zeros l 6 (i + 1 - 6) ≡ (zeros l 6 (i - 6) && eqb (get_or l i 0) 0)
-unfolding zeros
-zeros-more l i h =
-    let a : i + 1 - 6 ≡ suc (i - 6) = omega arith in
-    let b : 6 + (i - 6) ≡ i = omega arith in
-    rw a (rw b)
+zeros-all l a zero = (λ e k h. absurd (omega arith), λ h. refl)
+zeros-all l a (suc n) =
+    let b = and-eq-true_iff (zeros l a n) (eqb (get_or l (a + n) 0) 0) in
+    let q = zeros-all l a n in (
+      λ e k h. ⊎_elim (λ (p : k ≡ n). rw p (eqb-true (get_or l (a + n) 0) 0 (b.0 e).1)) (λ (m : k < n). q.0 (b.0 e).0 k m) (eq-or-lt_of_le (omega arith)),
+      λ h. b.1 (q.1 (λ k m. h k (omega arith)), eq-eqb (get_or l (a + n) 0) 0 (h n (omega arith))),
+    )
 
 not-not : (b : Bool) → not (not b) ≡ b
 not-not true = refl
@@ -128,3 +139,12 @@ module _ (l : List ℕ) where
       let flags = joined 164 1 1 (flag-zero 164) (flag-zero 165) in
       let closing = joined 154 1 11 (byte-zero 154) (joined 155 1 10 (byte-zero 155) (joined 156 4 6 cb-mix (joined 160 4 2 cr-mix flags))) in
       sym (rest-zero (stored l) format ∙ joined 6 29 131 luma (joined 35 43 88 chroma (joined 78 76 12 filter closing)))
+
+  pub rest-decided : (format : ℕ) {z : Bool} → length l ≡ 168 → IsTrue z ↔ Each (λ b. b ≡ 0) (take 160 (drop 6 l)) → z ≡ all_allowed (rest (stored l) format uncoded)
+  rest-decided format {z} whole q =
+      let a = zeros-all l 6 160 in
+      let long : length (take 160 (drop 6 l)) ≡ 160 = length-take-le 160 (drop 6 l) (rw (length-drop 6 l, whole) (omega arith)) in
+      both_ways z (zeros l 6 160)
+      (λ e. a.1 (λ k h. rw (get_or-take 160 (drop 6 l) k 0 h, get_or-drop 6 l k 0) at (q.0 e k 0 (rw long h))))
+      (λ e. q.1 (λ k d h. let m : k < 160 = rw long at h in inside (take 160 (drop 6 l)) k d h ∙ rw (get_or-take 160 (drop 6 l) k 0 m, get_or-drop 6 l k 0) (a.0 e k m)))
+      ∙ rest-zeros format

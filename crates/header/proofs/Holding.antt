@@ -16,7 +16,8 @@ use Rattle.laws.specs.Table.{tabulate}
 use Rattle.laws.proofs.Table.{tabulate-same, length-tabulate, get_d_tabulate}
 use Rattle.header.specs.Bits.{digits, number, byte_at, packed}
 use Rattle.header.specs.declared.bits.Cursor.{Cursor}
-use Rattle.header.specs.Held.{Binary, Held, start, Ready, Put}
+use Rattle.header.specs.declared.bits.BitWriter.{BitWriter}
+use Rattle.header.specs.Held.{Binary, Held, Put, Puts}
 use Rattle.header.proofs.Numbers.{number_append, binary-append, binary-drop, first-eight, after-eight, digits-length, digits-binary, digits_number}
 
 -- ---- bytes
@@ -175,11 +176,21 @@ put_then {a} {b} h k = record { puts = λ from bs l. rw (← append_assoc bs a b
 pub put_as : {a b : List ℕ} {u v : Cursor} {d e : List ℕ} → a ≡ b → Put a u d v e → Put b u d v e
 put_as {a} {b} {u} {v} {d} {e} q h = rw (← q) h
 
+-- the same of a writer
+pub puts-none : {w : BitWriter} {n : ℕ} → Puts [] n w w
+puts-none = record { same = refl; put = put-none; next = omega arith }
+
+pub puts_then : {a b : List ℕ} {m n : ℕ} {u v w : BitWriter} → Puts a m u v → Puts b n v w → Puts (a ++ b) (m + n) u w
+puts_then {m} {n} {u} {v} {w} h k = record { same = k.same ∙ h.same; put = put_then h.put k.put; next = omega arith }
+
+pub puts_as : {a b : List ℕ} {m n : ℕ} {u v : BitWriter} → a ≡ b → m ≤ n → Puts a m u v → Puts b n u v
+puts_as {u} {v} q l h = record { same = h.same; put = put_as q h.put; next = omega arith }
+
 -- all bits, and zeros to the end of the last byte
-pub put-packed : {from e d : List ℕ} {v w : Cursor} (bs : List ℕ) → Put bs start from v e → Ready v → Put (digits ((8 - v.count) % 8) 0) v e w d → Ready w → d ≡ packed bs from
-put-packed {from} {e} {d} {v} {w} bs a r z s =
+pub put-packed : {from to e d : List ℕ} {u v w : Cursor} (bs : List ℕ) → Held from [] u.at u.count u.pending to → Put bs u to v e → Put (digits ((8 - v.count) % 8) 0) v e w d → d ≡ packed bs from
+put-packed {from} {to} {e} {d} {u} {v} {w} bs s a z =
     let n = (8 - v.count) % 8 in
-    let h = a.puts from [] (held_none from) in
+    let h = a.puts from [] s in
     let k = z.puts from bs h in
-    let l : w.count ≡ 0 = omega (arith, h.place, k.place, length-append bs (digits n 0), digits-length n 0, r.short, s.short) in
+    let l : w.count ≡ 0 = omega (arith, h.place, k.place, length-append bs (digits n 0), digits-length n 0, v.short, w.short) in
     held-packed bs n (omega arith) (rw l at k)

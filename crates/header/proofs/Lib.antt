@@ -4,8 +4,11 @@ pub mod Holding
 -- rows
 pub mod Folds
 pub mod Shapes
+pub mod Formats
 pub mod Lists
+pub mod Listed
 pub mod Parts
+pub mod Putting
 pub mod Sizes
 pub mod Short
 pub mod Bytes

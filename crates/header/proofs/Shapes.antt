@@ -2,7 +2,13 @@
 use mathlib.Core.Path.{◌≡◌, refl}
 use mathlib.Core.Bool.{Bool, true, false, not, ◌&&◌, and_assoc}
 use Prim.Native.Nat.{◌+◌, ◌-◌, ◌^◌}
+use mir.Val.{bool_byte}
 use Rattle.header.specs.Row.{bit}
+
+-- a flag as the library turns it into a number
+pub flag-bit : (b : Bool) → bool_byte b ≡ bit b
+flag-bit true = refl
+flag-bit false = refl
 
 -- with a bit or without, update_grain is at most 1
 pub update-most : (inter : Bool) → bit (not inter) + (2 ^ bit inter - 1) ≡ 1

@@ -6,7 +6,6 @@ use Prim.Native.Nat.{ℕ}
 use native.Mathlib.Omega.{arith}
 use lib.Dec.{eqb}
 use lib.ListN.{length, length-append}
-use borrow.Author.Tests.{not-true}
 use Rattle.header.specs.Record.{FilmGrainParams}
 use Rattle.header.specs.declared.counts.Counts.{Counts}
 use Rattle.header.specs.Row.{bit, allowed}
@@ -23,9 +22,9 @@ pub nothing : (p : FilmGrainParams) (format : ℕ) → coded p ≡ false → cou
 unfolding counts_of
 nothing p format e = rw e
 
-pub uncoded-counts : (p : FilmGrainParams) (format : ℕ) (c : Counts) → c ≡ counts_of p format → not c.coded ≡ true → c ≡ uncoded
+pub uncoded-counts : (p : FilmGrainParams) (format : ℕ) (c : Counts) → c ≡ counts_of p format → c.coded ≡ false → c ≡ uncoded
 unfolding counts_of
-uncoded-counts p format c e h = e ∙ nothing p format (not-true (coded p) (rw e at h))
+uncoded-counts p format c e h = e ∙ nothing p format (rw e at h)
 
 pub uncoded-size : (p : FilmGrainParams) (inter : Bool) (format : ℕ) → opening_size p inter ≡ size_of p inter format uncoded
 unfolding size_of

@@ -1,6 +1,8 @@
 -- "The answer is their number, fill not counted." "Errors: 10 if a field, or a place of an array, ..; 11 if the destination has too few bytes; both after 9, in this order."
-use Rattle.std.specs.Prelude.{Bool, List, [], ◌∷◌, ℕ, ◌+◌, ◌/◌, leb, length}
+use Rattle.std.specs.Prelude.{Bool, List, [], ◌∷◌, ℕ, ◌+◌, ◌/◌, leb, length, Result, Ok, Err}
 use Rattle.frame.specs.Questions.{Question, first_no, accepted, format_known}
+use Rattle.frame.specs.declared.refusal.Refusal.{Refusal}
+use Rattle.frame.specs.Refusal.{number}
 use Rattle.header.specs.Record.{FilmGrainParams}
 use Rattle.header.specs.declared.Written.{Written}
 use Rattle.header.specs.Row.{Row}
@@ -25,6 +27,11 @@ write_refusal p inter format room =
 
 abbrev pub written : ℕ → ℕ → Written
 written refusal bits = record { refusal = refusal; bits = bits }
+
+-- of the number of bits, or of the question whose answer is no
+abbrev pub written_of : Result ℕ Refusal → Written
+written_of (Ok bits) = written 0 bits
+written_of (Err refusal) = written (number refusal) 0
 
 -- `write_film_grain_params` into a destination d: its answer, and what the destination holds
 unfoldable pub write_outcome : FilmGrainParams → Bool → ℕ → List ℕ → Written × List ℕ

@@ -1,6 +1,7 @@
 -- What the writer holds on its way: whole bytes in the destination, and the bits after them in a number.
-use Rattle.std.specs.Prelude.{◌≡◌, Bool, cond, List, [], ◌∷◌, ◌++◌, ℕ, ◌+◌, ◌*◌, ◌^◌, ◌<◌, ◌≤◌, length, get_or, drop}
+use Rattle.std.specs.Prelude.{◌≡◌, Bool, cond, List, [], ◌∷◌, ◌++◌, ℕ, ◌+◌, ◌*◌, ◌<◌, ◌≤◌, length, get_or, drop}
 use Rattle.header.specs.declared.bits.Cursor.{Cursor}
+use Rattle.header.specs.declared.bits.BitWriter.{BitWriter}
 use Rattle.header.specs.Bits.{digits, number, byte_at}
 
 -- each is 0 or 1
@@ -17,18 +18,15 @@ pub record Held (from bs : List ℕ) (at count pending : ℕ) (d : List ℕ) : T
   pub done : (j : ℕ) → j < at → j < length from → get_or d j 0 ≡ byte_at bs j
   pub kept : (j : ℕ) → at ≤ j → get_or d j 0 ≡ get_or from j 0
 
--- nothing is put
-abbrev pub start : Cursor
-start = record { at = 0; count = 0; pending = 0 }
-
--- less than a byte is not yet in the destination
-pub record Ready (w : Cursor) : Type 0 where
-  pub short : w.count < 8
-  pub low : w.pending < 2 ^ w.count
-
 -- from w and d on, `more` bits are put, and w' and d' are left
 pub record Put (more : List ℕ) (w : Cursor) (d : List ℕ) (w' : Cursor) (d' : List ℕ) : Type 0 where
   pub puts : (from bs : List ℕ) → Held from bs w.at w.count w.pending d → Held from (bs ++ more) w'.at w'.count w'.pending d'
+
+-- the same of a writer, whose destination it keeps; so many bytes more are in it at most
+pub record Puts (more : List ℕ) (bytes : ℕ) (w w' : BitWriter) : Type 0 where
+  pub same : w'.bytes.ghost_name ≡ w.bytes.ghost_name
+  pub put : Put more w.cursor w.bytes.now w'.cursor w'.bytes.now
+  pub next : w'.cursor.at ≤ w.cursor.at + bytes
 
 -- the bits of a plane's multipliers and offset
 abbrev pub mix_bits : Bool → ℕ → ℕ → ℕ → List ℕ

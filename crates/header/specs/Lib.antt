@@ -7,6 +7,8 @@ pub mod Bits
 pub mod Calls
 -- what only contracts of the parts use
 pub mod Scalars
+pub mod Format
+pub mod Params
 pub mod Size
 pub mod Held
 -- what theorems say

@@ -1,7 +1,5 @@
 // Bits put one after another into bytes, the highest of a byte first.
-ghost use Rattle.std.specs.Prelude.{◌≡◌, List, ℕ, ◌+◌, ◌*◌, ◌^◌, ◌<◌, ◌≤◌};
-ghost use Rattle.header.specs.Bits.{digits};
-ghost use Rattle.header.specs.Held.{Held, Ready, Put};
+ghost use Rattle.std.specs.Prelude.{◌≡◌, ◌+◌, ◌-◌, ◌*◌, ◌/◌, ◌^◌, ◌<◌, ◌≤◌};
 
 // How many bytes are in the destination; how many bits, fewer than eight, are not yet, and the number that they say.
 #[derive(Clone, Copy)]
@@ -9,6 +7,15 @@ pub struct Cursor {
     pub at: usize,
     pub count: usize,
     pub pending: u32,
+    ghost short: { count < 8 },
+    ghost low: { pending < 2 ^ count },
+}
+
+// A destination, and how far it has the bits that are put into it.
+#[derive(Drop)]
+pub struct BitWriter<'a> {
+    pub bytes: &'a mut [u8],
+    pub cursor: Cursor,
 }
 
 // 2^n
@@ -16,49 +23,77 @@ fn power(n: usize) -> u32
     requires { n ≤ 8 }
     ensures { (result ≡ 2 ^ n) × (0 < result) × (result ≤ 256) }
 {
-    1u32 << n
+    1 << n
 }
 
-// The first eight of `rest + 8` bits into byte `at`, if there is one; `rest` bits are left.
-fn put_first(dst: &mut [u8], at: usize, rest: usize, pending: u32) -> Cursor
-    requires { (at < 2 ^ 32) × (rest < 8) × (pending < 2 ^ (8 + rest)) }
-    ensures { ((from bs : List ℕ) → Held from bs at (rest + 8) pending dst.old → Held from bs result.at result.count result.pending dst.new) × Ready result × (result.at ≡ at + 1) }
-{
-    let p = power(rest);
-    let after = Cursor {
-        at: at + 1,
-        count: rest,
-        pending: pending % p,
-    };
-    if dst.len() <= at {
-        return after;
+impl<'a> BitWriter<'a> {
+    ghost use Rattle.std.specs.Prelude.{List, ℕ, [], cond};
+    ghost use Rattle.header.specs.Bits.{digits};
+    ghost use Rattle.header.specs.Held.{Held, Puts};
+
+    // Nothing is put.
+    pub fn new(bytes: &'a mut [u8]) -> BitWriter<'a>
+        ensures same { result.bytes.ghost_name ≡ bytes.entry.ghost_name }
+        ensures held { Held bytes.old [] result.cursor.at result.cursor.count result.cursor.pending result.bytes.now }
+        ensures next { result.cursor.at ≡ 0 }
+    {
+        BitWriter {
+            bytes,
+            cursor: Cursor {
+                at: 0,
+                count: 0,
+                pending: 0,
+            },
+        }
     }
-    dst[at] = (pending >> rest) as u8;
-    after
-}
 
-// f(bits), of at most eight bits.
-pub fn put(dst: &mut [u8], w: Cursor, bits: usize, value: u32) -> Cursor
-    requires { Ready w × (w.at < 2 ^ 32) × (bits ≤ 8) }
-    ensures { Put (digits bits value) w dst.old result dst.new × Ready result × (result.at ≤ w.at + 1) }
-{
-    let p = power(bits);
-    let count = w.count + bits;
-    let pending = w.pending * p + value % p;
-    if count < 8 {
-        return Cursor {
-            at: w.at,
-            count,
-            pending,
+    // The first eight of `rest + 8` bits, which say `pending`, into the next byte, if there is one; `rest` bits are left.
+    fn put_first(&mut self, rest: usize, pending: u32)
+        requires { (self.old.cursor.at < 2 ^ 32) × (rest < 8) × (pending < 2 ^ (8 + rest)) }
+        ensures same { self.new.bytes.ghost_name ≡ self.old.bytes.ghost_name }
+        ensures held { (from bs : List ℕ) → Held from bs self.old.cursor.at (rest + 8) pending self.old.bytes.now → Held from bs self.new.cursor.at self.new.cursor.count self.new.cursor.pending self.new.bytes.now }
+        ensures next { self.new.cursor.at ≡ self.old.cursor.at + 1 }
+    {
+        let at = self.cursor.at;
+        if at < self.bytes.len() {
+            self.bytes[at] = (pending >> rest) as u8;
+        }
+        self.cursor = Cursor {
+            at: at + 1,
+            count: rest,
+            pending: pending % power(rest),
         };
     }
-    put_first(dst, w.at, count - 8, pending)
-}
 
-// f(8)
-pub fn put_byte(dst: &mut [u8], w: Cursor, value: u8) -> Cursor
-    requires { Ready w × (w.at < 2 ^ 32) }
-    ensures { Put (digits 8 value) w dst.old result dst.new × Ready result × (result.at ≤ w.at + 1) }
-{
-    put_first(dst, w.at, w.count, w.pending * 256 + value as u32)
+    // f(bits), of at most eight bits.
+    pub fn put(&mut self, bits: usize, value: u32)
+        requires { (self.old.cursor.at < 2 ^ 32) × (bits ≤ 8) }
+        ensures { Puts (digits bits value) 1 self.old self.new }
+    {
+        let p = power(bits);
+        let Cursor { at, count, pending } = self.cursor;
+        let count = count + bits;
+        let pending = pending * p + value % p;
+        if count < 8 {
+            self.cursor = Cursor { at, count, pending };
+        } else {
+            self.put_first(count - 8, pending);
+        }
+    }
+
+    // f(bits), of at most sixteen bits, if it is present.
+    pub fn put_field(&mut self, present: bool, bits: usize, value: u32)
+        requires { (self.old.cursor.at + (bits - 1) / 8 < 2 ^ 32) × (bits ≤ 16) }
+        ensures { Puts (digits (cond present bits 0) value) (1 + (bits - 1) / 8) self.old self.new }
+    {
+        if !present {
+            return;
+        }
+        if bits <= 8 {
+            self.put(bits, value);
+        } else {
+            self.put(bits - 8, value / 256);
+            self.put(8, value);
+        }
+    }
 }

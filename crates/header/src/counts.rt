@@ -1,14 +1,15 @@
 // How many places of each list the syntax has.
-ghost use Rattle.std.specs.Prelude.{◌≡◌, cond, ◌^◌, ◌<◌, ◌≤◌, min};
+ghost use Rattle.std.specs.Prelude.{◌≡◌, cond, ◌^◌, ◌<◌, ◌≤◌};
 ghost use Rattle.positions.specs.Text.{num_pos_luma};
-ghost use Rattle.header.specs.Row.{bit};
 ghost use Rattle.header.specs.Scalars.{scalars};
 ghost use Rattle.header.specs.Text.{counts_of};
+ghost use Rattle.header.specs.Format.{format_number};
 
+use crate::format::Format;
 use crate::stored::Fields;
 
-// Whether the parameters themselves are coded, whether chroma's points are, and how many points and coefficients each plane has in the header.
-#[derive(Clone, Copy)]
+// Whether the parameters themselves are coded, whether chroma's points are, and how many points and coefficients each plane has in the header. The first two are conditions of rows of the syntax, and no counts in an `Option` would be plainer: rows ask about them and the counts alike.
+#[derive(Clone, Copy, Default)]
 pub struct Counts {
     pub coded: bool,
     pub chroma: bool,
@@ -27,57 +28,29 @@ pub fn kept(present: bool, n: usize) -> usize
     if present { n } else { 0 }
 }
 
-pub fn wide(x: u8) -> u32
-    ensures { result ≡ x }
-{
-    x as u32
-}
-
-// 1 for true
-pub fn flag(b: bool) -> u32
-    ensures { result ≡ bit b }
-{
-    if b { 1 } else { 0 }
-}
-
-// min(a, b)
-pub fn smaller(a: usize, b: usize) -> usize
-    ensures { (result ≡ min a b) × (result ≤ b) }
-{
-    if a < b { a } else { b }
-}
-
 // 2 × lag × (lag + 1)
 fn num_pos_luma(lag: u8) -> usize
     ensures { (result ≡ num_pos_luma lag) × (result < 2 ^ 18) }
 {
-    let n = lag as usize;
+    let n = usize::from(lag);
     2 * n * (n + 1)
 }
 
-pub fn counts_of(f: Fields, format: u8) -> Counts
-    ensures { result ≡ counts_of (scalars f) format }
+pub fn counts_of(f: Fields, format: Format) -> Counts
+    ensures { result ≡ counts_of (scalars f) (format_number format) }
 {
     let coded = f.apply_grain & f.update_grain;
     if !coded {
-        return Counts {
-            coded: false,
-            chroma: false,
-            y_points: 0,
-            cb_points: 0,
-            cr_points: 0,
-            y_coeffs: 0,
-            cb_coeffs: 0,
-            cr_coeffs: 0,
-        };
+        return Counts::default();
     }
-    let y_points = kept(coded, f.num_y_points as usize);
+    let y_points = kept(coded, usize::from(f.num_y_points));
     let chroma = coded
-        & (!(format == 0) & (!f.chroma_scaling_from_luma & !((format == 1) & (y_points == 0))));
-    let cb_points = kept(chroma, f.num_cb_points as usize);
-    let cr_points = kept(chroma, f.num_cr_points as usize);
+        & ((format != Format::Monochrome)
+            & (!f.chroma_scaling_from_luma & !((format == Format::Yuv420) & (y_points == 0))));
+    let cb_points = kept(chroma, usize::from(f.num_cb_points));
+    let cr_points = kept(chroma, usize::from(f.num_cr_points));
     let luma = num_pos_luma(f.ar_coeff_lag);
-    let with_tap = luma + kept(0 < y_points, 1);
+    let with_tap = luma + usize::from(0 < y_points);
     let from_luma = coded & f.chroma_scaling_from_luma;
     Counts {
         coded,

@@ -1,8 +1,10 @@
 // The film grain part of a frame header, 5.9.30, written.
 #![tactic(auto)]
 
+mod format; // a frame's format
 mod stored; // a record where it stands in memory
 mod counts; // how many places of each list the syntax has
+mod header; // a header to be written
 mod limits; // question 10, field by field
 mod size; // how many bits there are
 mod bits; // bits put one after another into bytes
@@ -10,15 +12,13 @@ mod writer; // the fields' bits in stream order
 
 ghost use Rattle.std.specs.Prelude.{◌≡◌};
 ghost use Rattle.header.specs.Stored.{stored};
-ghost use Rattle.header.specs.Calls.{written, write_outcome};
+ghost use Rattle.header.specs.Calls.{written_of, write_outcome};
 
-use counts::counts_of;
-use limits::fields_allowed;
-use size::size_of;
-use stored::fields_of;
-use writer::put_header;
+use format::Format;
+use frame::{Refusal, ask};
+use header::Header;
 
-// A refusal's number, and how many bits were written.
+// A refusal's number, and how many bits were written. The number is C's: an exported record holds no enum.
 #[repr(C)]
 #[derive(Clone, Copy)]
 pub struct Written {
@@ -26,29 +26,35 @@ pub struct Written {
     pub bits: usize,
 }
 
-// A refusal's number, and no bits.
-fn refused(refusal: u32) -> Written
-    ensures { result ≡ written refusal 0 }
+impl From<Result<usize, Refusal>> for Written {
+    ghost from_gives = { λ answer w. w ≡ written_of answer };
+
+    fn from(answer: Result<usize, Refusal>) -> Written {
+        match answer {
+            Ok(bits) => Written { refusal: 0, bits },
+            Err(refusal) => Written {
+                refusal: refusal.into(),
+                bits: 0,
+            },
+        }
+    }
+}
+
+// How many bits of the record are put into `dst`, or the first question whose answer is no.
+fn write(p: &[u8; 168], inter: bool, format: u8, dst: &mut [u8]) -> Result<usize, Refusal>
+    ensures { (written_of result, dst.new) ≡ write_outcome (stored p.now) inter format dst.old }
 {
-    Written { refusal, bits: 0 }
+    let header = Header::new(p, inter, Format::try_from(format)?);
+    ask(header.is_allowed(), Refusal::HeaderField)?;
+    let bits = header.size();
+    ask(bits.div_ceil(8) <= dst.len(), Refusal::HeaderRoom)?;
+    header.put(dst);
+    Ok(bits)
 }
 
 // The bits of 5.9.30 into `dst`, the highest of a byte first, of a record that is lent as its bytes.
 pub fn write_film_grain_params(p: &[u8; 168], inter: bool, format: u8, dst: &mut [u8]) -> Written
     ensures { (result, dst.new) ≡ write_outcome (stored p.now) inter format dst.old }
 {
-    if !frame::format_known(format) {
-        return refused(4);
-    }
-    let f = fields_of(p);
-    let c = counts_of(f, format);
-    if !fields_allowed(p, f, inter, format, c) {
-        return refused(10);
-    }
-    let bits = size_of(f, inter, format, c);
-    if dst.len() < (bits + 7) / 8 {
-        return refused(11);
-    }
-    put_header(dst, p, f, inter, format, c);
-    Written { refusal: 0, bits }
+    write(p, inter, format, dst).into()
 }

@@ -1,20 +1,6 @@
 // A record where it stands in memory, as C lays it out: 168 bytes.
-ghost use Rattle.std.specs.Prelude.{◌≡◌, ◌+◌, ◌*◌, ◌≤◌, length};
-ghost use Rattle.header.specs.Stored.{items_from};
-ghost use Rattle.header.specs.Scalars.{fields_of};
-
-// Where a plane's lists begin: the values of its points, with as many scalings after them, and its coefficients.
-pub const Y_POINTS: usize = 7;
-
-pub const CB_POINTS: usize = 37;
-
-pub const CR_POINTS: usize = 58;
-
-pub const Y_COEFFS: usize = 80;
-
-pub const CB_COEFFS: usize = 104;
-
-pub const CR_COEFFS: usize = 129;
+ghost use Rattle.std.specs.Prelude.{◌≡◌, min, length, take, drop};
+ghost use Rattle.header.specs.Semantics.{Bytes};
 
 // The fields of a record but its lists and `predicted`.
 #[derive(Clone, Copy)]
@@ -41,46 +27,77 @@ pub struct Fields {
     pub clip_to_restricted_range: bool,
 }
 
-// Two bytes, the low one first.
-fn word(low: u8, high: u8) -> u16
-    ensures { result ≡ low + 256 * high }
-{
-    low as u16 + 256 * high as u16
-}
+impl From<&[u8; 168]> for Fields {
+    ghost use Rattle.header.specs.Scalars.{fields_of};
 
-pub fn fields_of(p: &[u8; 168]) -> Fields
-    ensures { result ≡ fields_of p.now }
-{
-    Fields {
-        apply_grain: p[0] != 0,
-        grain_seed: word(p[2], p[3]),
-        update_grain: p[4] != 0,
-        film_grain_params_ref_idx: p[5],
-        num_y_points: p[6],
-        chroma_scaling_from_luma: p[35] != 0,
-        num_cb_points: p[36],
-        num_cr_points: p[57],
-        grain_scaling: p[78],
-        ar_coeff_lag: p[79],
-        ar_coeff_shift: p[154],
-        grain_scale_shift: p[155],
-        cb_mult: p[156],
-        cb_luma_mult: p[157],
-        cb_offset: word(p[158], p[159]),
-        cr_mult: p[160],
-        cr_luma_mult: p[161],
-        cr_offset: word(p[162], p[163]),
-        overlap_flag: p[164] != 0,
-        clip_to_restricted_range: p[165] != 0,
+    ghost from_gives = { λ p f. f ≡ fields_of p.now };
+
+    fn from(p: &[u8; 168]) -> Fields {
+        Fields {
+            apply_grain: p[0] != 0,
+            grain_seed: u16::from_le_bytes([p[2], p[3]]),
+            update_grain: p[4] != 0,
+            film_grain_params_ref_idx: p[5],
+            num_y_points: p[6],
+            chroma_scaling_from_luma: p[35] != 0,
+            num_cb_points: p[36],
+            num_cr_points: p[57],
+            grain_scaling: p[78],
+            ar_coeff_lag: p[79],
+            ar_coeff_shift: p[154],
+            grain_scale_shift: p[155],
+            cb_mult: p[156],
+            cb_luma_mult: p[157],
+            cb_offset: u16::from_le_bytes([p[158], p[159]]),
+            cr_mult: p[160],
+            cr_luma_mult: p[161],
+            cr_offset: u16::from_le_bytes([p[162], p[163]]),
+            overlap_flag: p[164] != 0,
+            clip_to_restricted_range: p[165] != 0,
+        }
     }
 }
 
-// The n bytes from `at` on.
-pub fn list(p: &[u8; 168], at: usize, n: usize) -> &[u8]
-    requires { at + n ≤ 168 }
-    ensures { (result.now ≡ items_from p.now at n) × (length result.now ≡ n) }
+// Where a list begins in a record, and how many places it has.
+#[derive(Clone, Copy)]
+pub struct List {
+    pub at: usize,
+    pub places: usize,
+}
+
+// The values of a plane's points; as many scalings stand after them.
+pub const Y_POINTS: List = List { at: 7, places: 14 };
+
+pub const CB_POINTS: List = List { at: 37, places: 10 };
+
+pub const CR_POINTS: List = List { at: 58, places: 10 };
+
+// A plane's coefficients.
+pub const Y_COEFFS: List = List { at: 80, places: 24 };
+
+pub const CB_COEFFS: List = List {
+    at: 104,
+    places: 25,
+};
+
+pub const CR_COEFFS: List = List {
+    at: 129,
+    places: 25,
+};
+
+// A plane's points: as many scalings as values.
+#[derive(Clone, Copy)]
+pub struct Points<'a> {
+    pub values: &'a [u8],
+    pub scalings: &'a [u8],
+    ghost paired: { length scalings.now ≡ length values.now },
+}
+
+// The first n places of a list, or all that it has, and the others.
+pub fn parted(list: &[u8], n: usize) -> (&[u8], &[u8])
+    ensures first { result.0.now ≡ take (min n (length list.now)) list.now }
+    ensures others { result.1.now ≡ drop (min n (length list.now)) list.now }
+    ensures bytes { Bytes (length list.now) list.now }
 {
-    let end = at + n;
-    let bytes = &p[..];
-    &bytes[at..end]
+    list.split_at(n.min(list.len()))
 }

@@ -1,5 +1,5 @@
 -- The luma average at a chroma place: its four, two or one noises, as the definition adds them, are the sums of two lines of luma noise; and four times it is at most four times a noise in size. By the two cases of each direction. Assumes nothing.
-use mathlib.Core.Path.{◌≡◌, sym, ap, ◌∙◌, subst}
+use mathlib.Core.Path.{◌≡◌, sym, ap, ◌∙◌}
 use mathlib.Core.List.{List}
 use Prim.Native.Nat.{ℕ, ◌+◌, ◌-◌, ◌*◌, ◌^◌, ◌≤◌, ◌<◌, min}
 use native.Mathlib.Nat.{le_refl, le_trans, le_of_eq, lt_of_le_of_lt, lt_of_lt_of_le, add-zero, min-eq_left}
@@ -7,7 +7,6 @@ use native.Mathlib.Omega.{arith}
 use lib.Dec.{lit≤}
 use lib.IntN.{ℤ, pos, nat_abs, one, ◌+ℤ◌, ◌*ℤ◌, +ℤ_idl, *ℤ-one}
 use lib.ListN.{length}
-use Rattle.laws.specs.Limits.{sample_limit}
 use Rattle.laws.specs.Table.{tabulate}
 use Rattle.laws.specs.Sums.{total, sum_to}
 use Rattle.laws.proofs.Table.{tabulate-same}
@@ -18,8 +17,8 @@ use Rattle.frame.specs.declared.view.View.{View}
 use Rattle.frame.specs.declared.view.Sampling.{Sampling}
 use Rattle.noise.specs.Noise.{noise, noise_of}
 use Rattle.noise.specs.Average.{Luma, luma_place, quarters}
-use Rattle.noise.specs.Lines.{at, AtMost, noise_limit, Places, Plane}
-use Rattle.noise.specs.Seen.{seen, noise_at}
+use Rattle.noise.specs.Lines.{at, AtMost, noise_limit, Plane}
+use Rattle.noise.specs.Seen.{seen, noise_at, Seen}
 use Rattle.noise.specs.Quarters.{column_sum, quartered, AverageRow}
 use Rattle.noise.proofs.Seen.{plane-noise-le, seen-plane, noise-seen}
 use Rattle.noise.proofs.LineSums.{entry, size}
@@ -128,16 +127,13 @@ module _ (l : Luma) (r : ℕ) (R : Rows l r) where
 
     -- n columns, as they are worked out
     module _ {n : ℕ} (count : n ≡ sampled l.sampling.across l.plane.width) where
-      pub line-count : n ≡ sampled l.sampling.across (length sums)
-      line-count = count ∙ (λ k. sampled l.sampling.across (sym wide k))
-
       pub line-is : tabulate n (quartered l.sampling.across sums) ≡ tabulate (sampled l.sampling.across l.plane.width) (quarters l r)
       line-is = (λ k. tabulate (count k) (quartered l.sampling.across sums)) ∙ tabulate-same _ _ _ quarters-are
 
 -- ---- of a view, as `average_line` reads it
-module _ {v : View} {s : Sampling} {r sums line : ℕ} {source denoised : List ℕ} (A : AverageRow v s r source denoised sums line) where
+module _ {v : View} {s : Sampling} {r sums line : ℕ} {source denoised : List ℕ} (S : Seen v source denoised) (A : AverageRow v s r sums line) where
   pub rows : Rows (record { plane = seen v source denoised; sampling = s }) r
-  rows = record { plane = seen-plane A.luma; across = bit s.across A.across; down = bit s.down A.down; row = A.row }
+  rows = record { plane = seen-plane S; across = bit s.across A.across; down = bit s.down A.down; row = A.row }
 
   -- the upper luma row, and the lower
   upper_first : r * (s.down + 1) ≡ r * 2 ^ s.down
@@ -148,9 +144,6 @@ module _ {v : View} {s : Sampling} {r sums line : ℕ} {source denoised : List �
 
   pub lower_in : {lower : ℕ} → lower ≡ min (r * (s.down + 1) + s.down) (v.height - 1) → lower < v.height
   lower_in e = lt_of_le_of_lt (le_of_eq e) (held_in v.height _ (omega (arith, A.row)))
-
-  pub row-places : (y : ℕ) → y < v.height → Places sample_limit source denoised (v.start + y * v.step) v.stride sums
-  row-places y l = subst (λ (n : ℕ). Places sample_limit source denoised (v.start + y * v.step) v.stride n) (sym A.sums-length) (A.luma.rows y l)
 
   pub rows_of : {lower : ℕ} → lower ≡ min (r * (s.down + 1) + s.down) (v.height - 1) → {added : List ℤ}
       → added ≡ tabulate sums (λ x. noise_at source denoised v (r * (s.down + 1)) x +ℤ noise_at source denoised v lower x)

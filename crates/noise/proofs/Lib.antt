@@ -15,6 +15,7 @@ pub mod LineSums
 pub mod NoiseSums
 pub mod NoiseLines
 pub mod Seen
+pub mod SameSize
 pub mod RowSums
 pub mod SeenCalls
 pub mod Cropped

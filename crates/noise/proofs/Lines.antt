@@ -1,21 +1,13 @@
--- A line of noise: its places lie in both planes, and the machine's difference of two samples is their noise. Assumes nothing.
+-- A line of noise: its places lie in both planes, and the noise of low samples is small. Assumes nothing.
 use mathlib.Core.List.{List}
 use Prim.Native.Nat.{ℕ, ◌+◌, ◌*◌, ◌^◌, ◌≤◌, ◌<◌}
 use native.Mathlib.Nat.{le_of_eq, le_of_suc-le-suc, lt_of_lt_of_le}
 use lib.Dec.{lit≤}
-use lib.IntN.{nat_abs, ◌-ℤ◌}
-use lib.ListN.{get_or}
-use mir.Syntax.{w16}
-use mir.Val.{to_z}
+use lib.IntN.{nat_abs}
 use Rattle.laws.specs.Limits.{sample_limit}
 use Rattle.laws.proofs.Whole.{abs_diff}
-use Rattle.laws.proofs.Is.{Is, unsigned, minus}
 use Rattle.noise.specs.Noise.{noise}
 use Rattle.noise.specs.Lines.{LowAt, noise_limit, Places}
-
--- what the machine subtracts
-pub noise-is : {source denoised : List ℕ} {k : ℕ} → LowAt (2 ^ 15) source denoised k → Is w16 (to_z w16 (get_or source k 0) -ℤ to_z w16 (get_or denoised k 0)) (noise source denoised k)
-noise-is L = minus (unsigned w16 _ L.source-low) (unsigned w16 _ L.denoised-low) (abs_diff _ _ (2 ^ 15) L.source-low L.denoised-low)
 
 -- each of n places
 pub low-at : {limit : ℕ} {source denoised : List ℕ} {start stride n : ℕ} → Places limit source denoised start stride n → {i : ℕ} → i < n → LowAt limit source denoised (start + i * stride)

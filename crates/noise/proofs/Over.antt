@@ -42,27 +42,25 @@ module _ {g : Geometry} (O : Over g) where
   pub tap-over : (y y-denoised c c-denoised : List ℕ) (lag : ℕ) → InFit (seen g.chroma c c-denoised) lag (average (luma_seen g y y-denoised))
   tap-over y y-denoised c c-denoised lag = tap (luma_seen g y y-denoised) (average-exists y y-denoised)
 
+  -- for `average_line`
+  pub average-row : {r sums line : ℕ} → r < g.chroma.height → sums ≡ g.luma.width → line ≡ g.chroma.width → AverageRow g.luma g.sampling r sums line
+  average-row {r} l e d = record {
+    across = O.across;
+    down = O.down;
+    row = O.rows r l;
+    sums-length = e;
+    line-length = d ∙ O.columns (omega arith);
+  }
+
   module _ {y y-denoised : List ℕ} (S : Seen g.luma y y-denoised) where
     pub luma-limited : Limited plane_limit sample_limit (average (luma_seen g y y-denoised))
     luma-limited = (seen-samples S, O.across, O.down)
 
-    module _ {r : ℕ} (l : r < g.chroma.height) where
-      -- for `average_line`
-      pub average-row : {sums line : ℕ} → sums ≡ g.luma.width → line ≡ g.chroma.width → AverageRow g.luma g.sampling r y y-denoised sums line
-      average-row e d = record {
-        luma = S;
-        across = O.across;
-        down = O.down;
-        row = O.rows r l;
-        sums-length = e;
-        line-length = d ∙ O.columns (omega arith);
-      }
-
-      pub average-le : (c : ℕ) → c < g.chroma.width → nat_abs (quarters (luma_seen g y y-denoised) r c) ≤ 4 * noise_limit
-      average-le c m =
-          quarters-le (luma_seen g y y-denoised) r
-          (record { plane = seen-plane S; across = bit _ O.across; down = bit _ O.down; row = O.rows r l })
-          c (column-in l m)
+    pub average-le : {r : ℕ} → r < g.chroma.height → (c : ℕ) → c < g.chroma.width → nat_abs (quarters (luma_seen g y y-denoised) r c) ≤ 4 * noise_limit
+    average-le {r} l c m =
+        quarters-le (luma_seen g y y-denoised) r
+        (record { plane = seen-plane S; across = bit _ O.across; down = bit _ O.down; row = O.rows r l })
+        c (column-in l m)
 
 -- ---- of a shape
 sub-le : (b : Bool) → cond b 1 0 ≤ 1

@@ -13,11 +13,13 @@ use Rattle.laws.specs.Sums.{total, sum_to}
 use Rattle.laws.proofs.Sums.{sum_bound, sum_more}
 use Rattle.laws.proofs.Is.{Is, self, again, plus}
 use Rattle.frame.specs.declared.view.View.{View}
+use Rattle.noise.specs.PlanePair.{SameSize}
 use Rattle.noise.specs.Seen.{noise_at, Seen, RowSums, SumsOf, RowCross, CrossOf}
 use Rattle.noise.specs.Rows.{plane_plus, PlaneHeld, pair_plus, PairHeld}
 use Rattle.noise.specs.declared.sums.PlaneSums.{PlaneSums}
 use Rattle.noise.specs.declared.rows.PairSums.{PairSums}
 use Rattle.noise.proofs.NoiseSums.{noise-sum-le}
+use Rattle.noise.proofs.SameSize.{same-rows}
 use Rattle.noise.proofs.NoiseLines.{squares-le, lagged-le}
 
 -- the machine's sum of two i64 fields
@@ -66,9 +68,9 @@ module _ {n m : ℕ → ℕ → ℤ} {columns : ℕ} where
   pub cross-more : {r : ℕ} {s t : PairSums} → CrossOf n m r columns s → RowCross (n r) (m r) columns t → CrossOf n m (r + 1) columns (pair_plus s t)
   cross-more {r} S T = record { second = with_row _ r S.second T.second; cross = with_row _ r S.cross T.cross }
 
-module _ {v : View} {source₀ denoised₀ source₁ denoised₁ : List ℕ} (S : Seen v source₀ denoised₀) (T : Seen v source₁ denoised₁) where
-  pub cross-held : {r : ℕ} {s : PairSums} → r ≤ v.height → CrossOf (noise_at source₀ denoised₀ v) (noise_at source₁ denoised₁ v) r v.width s → PairHeld s
+module _ {v w : View} {source₀ denoised₀ source₁ denoised₁ : List ℕ} (S : Seen v source₀ denoised₀) (T : Seen w source₁ denoised₁) (same : SameSize v w) where
+  pub cross-held : {r : ℕ} {s : PairSums} → r ≤ v.height → CrossOf (noise_at source₀ denoised₀ v) (noise_at source₁ denoised₁ w) r v.width s → PairHeld s
   cross-held l C = record {
-    second = sum-held _ (lit≤ tt) S.narrow (le_trans l S.low) (λ i k. let Q = T.rows i (lt_of_lt_of_le k l) in noise-sum-le Q Q) C.second;
-    cross = sum-held _ (lit≤ tt) S.narrow (le_trans l S.low) (λ i k. noise-sum-le (S.rows i (lt_of_lt_of_le k l)) (T.rows i (lt_of_lt_of_le k l))) C.cross;
+    second = sum-held _ (lit≤ tt) S.narrow (le_trans l S.low) (λ i k. let Q = same-rows T same i (lt_of_lt_of_le k l) in noise-sum-le Q Q) C.second;
+    cross = sum-held _ (lit≤ tt) S.narrow (le_trans l S.low) (λ i k. noise-sum-le (S.rows i (lt_of_lt_of_le k l)) (same-rows T same i (lt_of_lt_of_le k l))) C.cross;
   }

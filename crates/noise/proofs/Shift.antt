@@ -1,29 +1,14 @@
--- A number shifted right: what the machine computes, the quotient rounded down, and its range. By the number's sign. Assumes nothing.
+-- A number shifted right: the quotient rounded down, and its range. By the number's sign. Assumes nothing.
 use mathlib.Core.Path.{◌≡◌, sym, ap, ◌∙◌}
 use mathlib.Core.Bool.{cond}
 use Prim.Native.Nat.{ℕ, zero, suc, ◌+◌, ◌-◌, ◌*◌, ◌/◌, ◌%◌, ◌^◌, ◌<◌}
-use native.Mathlib.Nat.{not-suc-le-zero, lt_of_lt_of_le, lt_of_le_of_lt, suc-mul, mod-lt, div-add-mod'}
+use native.Mathlib.Nat.{not-suc-le-zero, suc-mul, mod-lt, div-add-mod'}
 use native.Mathlib.Omega.{arith}
 use borrow.Author.Tests.{lt-ltb}
-use lib.Dec.{lit≤}
 use lib.IntN.{ℤ, pos, negsuc, neg_ℤ, ◌+ℤ◌, ◌*ℤ◌}
 use lib.Pow.{pow_pos, shr_lt}
-use lib.Signed.{mag, shr_z, mag_shr}
-use mir.Syntax.{w16}
-use mir.Val.{SFits, of_z, to_z}
-use mir.ValLaws.{to_z-of_z}
-use Rattle.laws.proofs.Is.{Is, sfits}
+use lib.Signed.{mag}
 use Rattle.noise.specs.Shift.{shifted}
-
-pub small-fits : {shift : ℕ} → shift < 16 → SFits w16 (pos shift)
-small-fits {shift} h = sfits w16 (pos shift) (lt_of_lt_of_le h (lit≤ tt))
-
-pub shift_is : (shift : ℕ) (z : ℤ) → SFits w16 z → Is w16 (shr_z (to_z w16 (of_z w16 z)) (2 ^ shift)) (shifted shift z)
-shift_is shift z h =
-    record {
-      eq = ap (λ (y : ℤ). shifted shift y) (to_z-of_z w16 z h);
-      holds = record { sfits = lt_of_le_of_lt (mag_shr z (2 ^ shift)) h.sfits };
-    }
 
 -- ---- rounded down: what is left over is from 0 to 2^shift − 1
 less : (b c : ℕ) → c < b → neg_ℤ (pos b) +ℤ pos c ≡ negsuc (b - suc c)

@@ -8,5 +8,6 @@ pub mod Claim
 pub mod Steps
 -- how the work is divided: the contracts of the parts
 pub mod Lines
+pub mod PlanePair
 pub mod Rows
 pub mod Quarters

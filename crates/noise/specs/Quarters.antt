@@ -4,7 +4,6 @@ use Rattle.frame.specs.Size.{sampled}
 use Rattle.frame.specs.declared.view.View.{View}
 use Rattle.frame.specs.declared.view.Sampling.{Sampling}
 use Rattle.noise.specs.Lines.{at}
-use Rattle.noise.specs.Seen.{Seen}
 
 -- from the sums of the two rows: at luma column j of chroma column c, where sub is 1 if the format halves the columns, else 0; and over both columns
 abbrev pub column_sum : ℕ → List ℤ → ℕ → ℕ → ℤ
@@ -14,8 +13,7 @@ unfoldable pub quartered : ℕ → List ℤ → ℕ → ℤ
 quartered sub sums c = column_sum sub sums c 0 +ℤ column_sum sub sums c sub
 
 -- a chroma row over the luma that a view shows, with a place for each luma column and for each average
-pub record AverageRow (v : View) (s : Sampling) (r : ℕ) (source denoised : List ℕ) (sums line : ℕ) : Type 0 where
-  pub luma : Seen v source denoised
+pub record AverageRow (v : View) (s : Sampling) (r sums line : ℕ) : Type 0 where
   pub across : s.across ≤ 1
   pub down : s.down ≤ 1
   pub row : r * 2 ^ s.down < v.height

@@ -3,12 +3,15 @@
 
 mod average;
 mod blocks;
+mod column_sums;
 mod line;
+mod plane_pair;
 mod rows;
 mod sums;
 
 pub use average::average_line;
-pub use blocks::{dot, dot_wide};
-pub use line::{blank_line, noise_line, shifted_line};
+pub use blocks::{AVERAGE_BLOCK, NOISE_BLOCK, dot};
+pub use line::{blank_line, noise_line, noise_row, shifted_line};
+pub use plane_pair::PlanePair;
 pub use rows::{PairSums, pair_sums};
 pub use sums::{PlaneSums, plane_sums};

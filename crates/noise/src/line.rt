@@ -1,10 +1,12 @@
 // Lines of noise, worked out from two planes of samples.
-ghost use Rattle.std.specs.Prelude.{◌≡◌, ℕ, ◌+◌, ◌*◌, ◌^◌, ◌<◌, pos, length};
+ghost use Rattle.std.specs.Prelude.{◌≡◌, ℕ, ◌+◌, ◌*◌, ◌^◌, ◌<◌, ◌≤◌, pos, length};
 ghost use Rattle.laws.specs.Table.{tabulate};
 ghost use Rattle.noise.specs.Noise.{noise};
 ghost use Rattle.noise.specs.Shift.{shifted};
 ghost use Rattle.noise.specs.Lines.{at, LowAt, row_noise, Places};
+ghost use Rattle.noise.specs.PlanePair.{noise_in};
 
+use crate::plane_pair::PlanePair;
 use frame::SIDE_LIMIT;
 
 // src[place] − den[place]
@@ -22,12 +24,12 @@ fn noise_places(src: &[u16], den: &[u16], start: usize, stride: usize, line: &mu
     requires { Places (2 ^ 15) src.now den.now start stride (length line.old) }
     ensures { line.new ≡ tabulate (length line.old) (row_noise src.now den.now start stride) }
 {
-    for i in 0..line.len() {
-        line[i] = noise_at(src, den, start + i * stride);
+    for (i, noise) in line.iter_mut().enumerate() {
+        *noise = noise_at(src, den, start + i * stride);
     }
 }
 
-// A line of noise. With a stride of 1 written out, the back end makes packed loads and differences of the loop.
+// A line of noise, of two planes as they are lent, since a part of a lone plane has no view. With a stride of 1 written out, the back end makes packed loads and differences of the loop.
 pub fn noise_line(src: &[u16], den: &[u16], start: usize, stride: usize, line: &mut [i16])
     requires { Places (2 ^ 15) src.now den.now start stride (length line.old) }
     ensures { line.new ≡ tabulate (length line.old) (row_noise src.now den.now start stride) }
@@ -39,13 +41,29 @@ pub fn noise_line(src: &[u16], den: &[u16], start: usize, stride: usize, line: &
     }
 }
 
-// out[i] = line[i] >> shift, rounded down.
+// line[c] = the noise at row r and column c of what is shown. (Not a method: no method of a public type asks anything of its caller.)
+pub fn noise_row(pair: &PlanePair, r: usize, line: &mut [i16])
+    requires shown { r < pair.now.view.height }
+    requires fits { length line.old ≤ pair.now.view.width }
+    ensures { line.new ≡ tabulate (length line.old) (noise_in pair.now r) }
+{
+    let view = pair.view;
+    noise_line(
+        pair.source,
+        pair.denoised,
+        view.start + r * view.step,
+        view.stride,
+        line,
+    );
+}
+
+// out[i] = line[i] >> shift, rounded down. (Below 16 is what `>>` asks; a type for it would be made at each call, to be opened here.)
 pub fn shifted_line(line: &[i16], shift: u32, out: &mut [i16])
     requires { (shift < 16) × (length line.now ≡ length out.old) }
     ensures { out.new ≡ tabulate (length out.old) (λ i. shifted shift (at line.now i)) }
 {
-    for i in 0..out.len() {
-        out[i] = line[i] >> shift;
+    for (i, shifted) in out.iter_mut().enumerate() {
+        *shifted = line[i] >> shift;
     }
 }
 

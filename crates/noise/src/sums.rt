@@ -1,18 +1,18 @@
 // Sums over one plane of noise: of its squares, shifted and not, and of its products along a row.
 ghost use Rattle.std.specs.Prelude.{◌≡◌, ◌+◌, ◌-◌, ◌≤◌, ◌<◌, ◌*ℤ◌, length};
 ghost use Rattle.laws.specs.Sums.{sum_to};
-ghost use Rattle.laws.specs.Limits.{side_limit, sample_limit};
 ghost use Rattle.noise.specs.Noise.{noise_of};
-ghost use Rattle.noise.specs.Lines.{at, product, row_noise, Places, NoiseLine};
-ghost use Rattle.noise.specs.Seen.{seen, noise_at, Seen, squared, RowSums, SumsOf};
+ghost use Rattle.noise.specs.Lines.{at, product, NoiseLine};
+ghost use Rattle.noise.specs.PlanePair.{shown, noise_in};
+ghost use Rattle.noise.specs.Seen.{squared, RowSums, SumsOf};
 ghost use Rattle.noise.specs.Rows.{plane_plus, PlaneHeld};
 
-use crate::blocks::dot;
-use crate::line::{blank_line, noise_line, shifted_line};
-use frame::View;
+use crate::blocks::{NOISE_BLOCK, dot};
+use crate::line::{blank_line, noise_row, shifted_line};
+use crate::plane_pair::PlanePair;
 
 // Of a noise n: Σ (n >> shift)², Σ n² and Σ n × the noise `lag` columns on.
-#[derive(Clone, Copy)]
+#[derive(Clone, Copy, Default)]
 pub struct PlaneSums {
     pub squares: i64,
     pub energy: i64,
@@ -21,16 +21,20 @@ pub struct PlaneSums {
 
 // line[0] × line[lag] + line[1] × line[lag + 1] + ..
 fn lagged_dot(line: &[i16], lag: usize) -> i64
-    requires { NoiseLine line.now × (lag ≤ length line.now) }
+    requires noise { NoiseLine line.now }
+    requires lag { lag ≤ length line.now }
     ensures { result ≡ sum_to (λ i. at line.now i *ℤ at line.now (i + lag)) (length line.now - lag) }
 {
     let n = line.len() - lag;
-    dot(&line[..n], &line[lag..])
+    dot::<NOISE_BLOCK>(&line[..n], &line[lag..])
 }
 
 // (line[0] >> shift)² + (line[1] >> shift)² + .., which is the energy where nothing is shifted. The shifted line is out.
 fn shifted_energy(line: &[i16], shift: u32, energy: i64, out: &mut [i16]) -> i64
-    requires { NoiseLine line.now × (shift < 16) × (length out.old ≡ length line.now) × (energy ≡ sum_to (product line.now line.now) (length line.now)) }
+    requires noise { NoiseLine line.now }
+    requires shift { shift < 16 }
+    requires fits { length out.old ≡ length line.now }
+    requires energy { energy ≡ sum_to (product line.now line.now) (length line.now) }
     ensures { result ≡ sum_to (λ i. squared shift (at line.now i)) (length line.now) }
 {
     if shift == 0 {
@@ -38,26 +42,28 @@ fn shifted_energy(line: &[i16], shift: u32, energy: i64, out: &mut [i16]) -> i64
     }
     shifted_line(line, shift, out);
     let shifted = &out[..];
-    dot(shifted, shifted)
+    dot::<NOISE_BLOCK>(shifted, shifted)
 }
 
-// The sums of a row, from a start and by a stride. Its noise is p, shifted q.
+// The sums of row r. Its noise is p, shifted q.
 fn row_sums(
-    src: &[u16],
-    den: &[u16],
-    start: usize,
-    stride: usize,
+    pair: &PlanePair,
+    r: usize,
     lag: usize,
     shift: u32,
     p: &mut [i16],
     q: &mut [i16],
 ) -> PlaneSums
-    requires { Places sample_limit src.now den.now start stride (length p.old) × (length p.old ≤ side_limit) × (length q.old ≡ length p.old) × (lag ≤ length p.old) × (shift < 16) }
-    ensures { RowSums (row_noise src.now den.now start stride) (length p.old) lag shift result }
+    requires shown { r < pair.now.view.height }
+    requires p_fits { length p.old ≡ pair.now.view.width }
+    requires q_fits { length q.old ≡ pair.now.view.width }
+    requires lag { lag ≤ pair.now.view.width }
+    requires shift { shift < 16 }
+    ensures { RowSums (noise_in pair.now r) pair.now.view.width lag shift result }
 {
-    noise_line(src, den, start, stride, p);
+    noise_row(pair, r, p);
     let line = &p[..];
-    let energy = dot(line, line);
+    let energy = dot::<NOISE_BLOCK>(line, line);
     let lagged = lagged_dot(line, lag);
     let squares = shifted_energy(line, shift, energy, q);
     PlaneSums {
@@ -67,7 +73,7 @@ fn row_sums(
     }
 }
 
-// a + b, sum by sum.
+// a + b, sum by sum. (Not an `impl Add`, which would ask that the sums fit: no method of a public type asks anything of its caller.)
 fn plane_plus(a: PlaneSums, b: PlaneSums) -> PlaneSums
     requires { PlaneHeld (plane_plus a b) }
     ensures { result ≡ plane_plus a b }
@@ -79,39 +85,20 @@ fn plane_plus(a: PlaneSums, b: PlaneSums) -> PlaneSums
     }
 }
 
-// The sums over the rows of a view. The lines p and q have a place for each column.
-fn view_sums(
-    src: &[u16],
-    den: &[u16],
-    view: View,
-    lag: usize,
-    shift: u32,
-    p: &mut [i16],
-    q: &mut [i16],
-) -> PlaneSums
-    requires { Seen view src.now den.now × (length p.old ≡ view.width) × (length q.old ≡ view.width) × (lag ≤ view.width) × (shift < 16) }
-    ensures { SumsOf (noise_at src.now den.now view) view.height view.width lag shift result }
-{
-    let mut total = PlaneSums {
-        squares: 0,
-        energy: 0,
-        lagged: 0,
-    };
-    for r in 0..view.height {
-        let start = view.start + r * view.step;
-        let row = row_sums(src, den, start, view.stride, lag, shift, p, q);
-        total = plane_plus(total, row);
-    }
-    total
-}
-
-// The sums over what a view shows of a plane.
-pub fn plane_sums(src: &[u16], den: &[u16], view: View, lag: usize, shift: u32) -> PlaneSums
-    requires { Seen view src.now den.now × (lag ≤ view.width) × (shift < 16) }
-    ensures { SumsOf (noise_of (seen view src.now den.now)) view.height view.width lag shift result }
+// The sums over what is shown of a plane, row by row.
+pub fn plane_sums(pair: &PlanePair, lag: usize, shift: u32) -> PlaneSums
+    requires lag { lag ≤ pair.now.view.width }
+    requires shift { shift < 16 }
+    ensures { SumsOf (noise_of (shown pair.now)) pair.now.view.height pair.now.view.width lag shift result }
 {
     let mut p = blank_line();
     let mut q = blank_line();
-    let w = view.width;
-    view_sums(src, den, view, lag, shift, &mut p[..w], &mut q[..w])
+    let w = pair.view.width;
+    let p = &mut p[..w];
+    let q = &mut q[..w];
+    let mut total = PlaneSums::default();
+    for r in 0..pair.view.height {
+        total = plane_plus(total, row_sums(pair, r, lag, shift, p, q));
+    }
+    total
 }

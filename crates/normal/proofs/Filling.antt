@@ -2,7 +2,7 @@
 use mathlib.Core.Path.{◌≡◌, sym, ◌∙◌}
 use mathlib.Core.List.{List, ◌++◌}
 use Prim.Native.Nat.{ℕ, ◌+◌, ◌-◌, ◌*◌, ◌≤◌, ◌<◌, min}
-use native.Mathlib.Nat.{le_trans, le_of_eq, lt_of_lt_of_le, mul-le-mul_right, zero-mul, min-le_left, min-le_right, le-min}
+use native.Mathlib.Nat.{le_trans, le_of_eq, lt_of_lt_of_le, mul-le-mul_right, min-le_left, min-le_right, le-min}
 use native.Mathlib.Omega.{arith}
 use lib.Arith.{digits_lt}
 use lib.IntN.{ℤ}
@@ -13,7 +13,7 @@ use Rattle.normal.specs.Normal.{Picture}
 use Rattle.normal.specs.Starts.{start_sum, by_blocks}
 use Rattle.normal.specs.Rows.{RowTables}
 use Rattle.normal.proofs.Places.{row-end, block-end, block-at}
-use Rattle.normal.proofs.Reached.{Reached, reached-starts, reached-part}
+use Rattle.normal.proofs.Reached.{Reached, reached-part}
 
 -- m numbers of block z, lent and come back
 pub filling : (k : ℕ) (f : ℕ → ℕ → ℤ) (before : List ℤ) {now : List ℤ} (z m : ℕ) → Reached (by_blocks k f) before now (z * k) → m ≤ k → z * k + m ≤ length before
@@ -29,9 +29,6 @@ table_of f n side r d = by_blocks side (start_sum (f (r - d)) (f r) n)
 pub record Filling (f : Picture) (n side starts r : ℕ) (before tables : List ℤ) (d : ℕ) : Type 0 where
   pub sized : length before ≡ starts * (side * side)
   pub reached : Reached (by_blocks (side * side) (table_of f n side r)) before tables (d * (side * side))
-
-pub tables_start : (f : Picture) (n side starts r : ℕ) {before : List ℤ} → length before ≡ starts * (side * side) → Filling f n side starts r before before 0
-tables_start f n side starts r e = record { sized = e; reached = rw (zero-mul (side * side)) (reached-starts _ _) }
 
 module _ {f : Picture} {n side starts r : ℕ} {before tables : List ℤ} {d : ℕ} (F : Filling f n side starts r before tables d) where
   abbrev k : ℕ
@@ -53,9 +50,6 @@ module _ {f : Picture} {n side starts r : ℕ} {before tables : List ℤ} {d : �
 
     table-in : d * k + k ≤ length before
     table-in = le_trans (block-end starts d k (lt_of_lt_of_le h (min-le_left starts (r + 1)))) (le_of_eq (sym F.sized))
-
-    pub table-end : d * k + k ≤ length tables
-    table-end = le_trans table-in (le_of_eq (sym F.reached.same))
 
     pub tables-turn : {new : List ℤ} → new ≡ tabulate k (table_of f n side r d) → Filling f n side starts r before (take (d * k) tables ++ (new ++ drop (d * k + k - d * k) (drop (d * k) tables))) (d + 1)
     tables-turn {new} e = record { sized = F.sized; reached = rw (row-end k d) (filling k (table_of f n side r) before d k F.reached (omega arith) table-in e) }

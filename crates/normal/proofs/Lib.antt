@@ -15,3 +15,5 @@ pub mod Entries
 pub mod TapSums
 pub mod Sizes
 pub mod Bounds
+pub mod Upper
+pub mod SumsOf

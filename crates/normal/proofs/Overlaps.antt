@@ -2,18 +2,18 @@
 use mathlib.Core.Path.{◌≡◌, sym, ap, ◌∙◌, subst}
 use mathlib.Core.List.{List}
 use Prim.Native.Nat.{ℕ, ◌+◌, ◌*◌, ◌^◌, ◌≤◌, ◌<◌}
-use native.Mathlib.Nat.{le_trans, le_of_lt, lt_of_le_of_lt, mul-le-mul_left, mul-le-mul_right, add_assoc, add-zero, add-le-add}
+use native.Mathlib.Nat.{le_trans, lt_of_le_of_lt, mul-le-mul_left, mul-le-mul_right, add_assoc, add-zero, add-le-add}
 use native.Mathlib.Omega.{arith}
 use lib.Dec.{lit<, lit≤}
-use lib.IntN.{ℤ, pos, negsuc, nat_abs, ◌+ℤ◌, ◌-ℤ◌, ◌*ℤ◌, *ℤ_comm}
+use lib.IntN.{ℤ, nat_abs, ◌+ℤ◌, ◌-ℤ◌, ◌*ℤ◌, *ℤ_comm}
 use lib.ListN.{length}
-use mir.Syntax.{Width, w16, w64}
+use mir.Syntax.{Width, w64}
 use mir.Val.{SFits, of_z, to_z}
 use Rattle.laws.specs.Limits.{side_limit}
 use Rattle.laws.specs.Sums.{sum_to}
 use Rattle.laws.proofs.Sums.{sum-ext, sum_bound, slide}
 use Rattle.laws.proofs.Whole.{abs-sub, abs-mul-le}
-use Rattle.laws.proofs.Is.{Is, self, again, wider, times, known}
+use Rattle.laws.proofs.Is.{Is, self, again, known}
 use Rattle.noise.specs.Lines.{at, product, noise_limit, Lines}
 use Rattle.normal.specs.Starts.{start_sum, average_limit, Overlap, Noisy}
 use Rattle.normal.proofs.Stored.{part, part_length, part_at}
@@ -76,21 +76,6 @@ module _ {c d : ℕ} {up lo : List ℤ} {n a b : ℕ} (O : Overlap c d up lo n a
 
   overlap-bound : nat_abs (start_sum (at up) (at lo) n a b) ≤ side_limit * (c * d)
   overlap-bound = le_trans (start-bound (at up) (at lo) n a b c d up_le lo-le) (mul-le-mul_right (c * d) O.few)
-
--- ---- as the code computes them: an i16 as an i64, and the product of two
-pub wide64 : (z : ℤ) → SFits w16 z → Is w64 (to_z w16 (of_z w16 z)) z
-wide64 z h = wider w16 w64 (lit≤ tt) (again (self h))
-
-abbrev pub wide : ℤ → ℤ
-wide z = to_z w64 (of_z w64 (to_z w16 (of_z w16 z)))
-
-pub product64 : (x y : ℤ) → SFits w16 x → SFits w16 y → Is w64 (wide x *ℤ wide y) (x *ℤ y)
-product64 x y f g =
-    times (again (wide64 x f)) (again (wide64 y g)) (lt_of_le_of_lt (abs-mul-le x y (2 ^ 15) (2 ^ 15) (within x f) (within y g)) (lit< tt))
-  where
-    within : (z : ℤ) → SFits w16 z → nat_abs z ≤ 2 ^ 15
-    within (pos n) h = le_of_lt h.sfits
-    within (negsuc n) h = h.sfits
 
 -- a number that fits, out of a local
 pub kept : {w : Width} {z y : ℤ} → SFits w z → z ≡ y → to_z w (of_z w z) ≡ y

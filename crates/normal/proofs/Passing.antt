@@ -2,10 +2,10 @@
 use mathlib.Core.Path.{◌≡◌, sym, ap, ◌∙◌, subst}
 use mathlib.Core.List.{List, ◌++◌}
 use Prim.Native.Nat.{ℕ, ◌+◌, ◌-◌, ◌*◌, ◌/◌, ◌%◌, ◌^◌, ◌≤◌, ◌<◌}
-use native.Mathlib.Nat.{le_trans, le_of_eq, lt_of_lt_of_le, mul-le-mul_left, mul-le-mul_right, mul-one, zero-mul}
+use native.Mathlib.Nat.{le_trans, le_of_eq, lt_of_lt_of_le, mul-le-mul_right}
 use native.Mathlib.Omega.{arith}
 use borrow.Author.Tests.{lt-ltb, le-ltb, le-leb, lt-leb}
-use lib.Arith.{digits_lt}
+use lib.Arith.{digits_lt, digits_div, digits_mod}
 use lib.IntN.{ℤ, pos, nat_abs, ◌+ℤ◌}
 use lib.ListN.{length, take, drop}
 use Rattle.laws.specs.Table.{tabulate}
@@ -16,7 +16,7 @@ use Rattle.normal.specs.Starts.{by_blocks}
 use Rattle.normal.specs.Blocks.{if_passed, Addable, Room, Added}
 use Rattle.normal.proofs.Places.{row-end, block-end, block-at, quotient}
 use Rattle.normal.proofs.Stored.{part, part_length, part_at}
-use Rattle.normal.proofs.Reached.{Reached, reached-starts, reached-part, part-long}
+use Rattle.normal.proofs.Reached.{Reached, reached-part, part-long}
 
 -- ---- whether row r is passed
 module _ (rows r low : ℕ) (x : ℤ) where
@@ -34,9 +34,6 @@ module _ (rows r low : ℕ) (x : ℤ) where
 
 -- ---- room
 module _ {sums tables : List ℤ} {starts r k : ℕ} (R : Room sums tables starts r k) where
-  pub blocks-le : starts * starts ≤ length sums
-  blocks-le = le_trans (le_of_eq (sym (mul-one (starts * starts)))) (le_trans (mul-le-mul_left (starts * starts) R.some) (le_of_eq (sym R.sums-size)))
-
   module _ (z : ℕ) (h : z < starts * starts) where
     pub sums-end : z * k + k ≤ length sums
     sums-end = le_trans (block-end (starts * starts) z k h) (le_of_eq (sym R.sums-size))
@@ -54,9 +51,6 @@ module _ (tables before : List ℤ) (starts rows r k : ℕ) where
 
   abbrev pub passing : ℕ → ℤ
   passing = by_blocks k grown
-
-  pub passing-starts : Reached passing before before (0 * k)
-  passing-starts = subst (λ (m : ℕ). Reached passing before before m) (sym (zero-mul k)) (reached-starts passing before)
 
   module _ {sums : List ℤ} (R : Room before tables starts r k) (z : ℕ) (A : Reached passing before sums (z * k)) where
     pub passing-ends : starts * starts ≤ z → Added before sums tables starts rows r k
@@ -98,3 +92,27 @@ module _ (tables before : List ℤ) (starts rows r k : ℕ) where
           (reached-part passing before (z * k) A k block_in
           (e ∙ ap (λ (m : ℕ). tabulate m (λ c. at (part sums (z * k) k) c +ℤ if_passed rows r (low z) (at table c))) sum-size
           ∙ tabulate-same k _ _ (λ c m. (λ i. sum-at c m i +ℤ if_passed rows r (low z) (table_at c m i)) ∙ sym (block-at k grown z c m))))
+
+-- ---- the block of two start rows, the lower of which is `apart` rows further down
+module _ {tables before : List ℤ} {starts r k : ℕ} (R : Room before tables starts r k) {apart above : ℕ} (ha : apart < starts) (hb : above < starts) where
+  module _ (rows : ℕ) {sums : List ℤ} (A : Reached (passing tables before starts rows r k) before sums ((apart * starts + above) * k)) where
+    pub block-same : length (part sums ((apart * starts + above) * k) k) ≡ length (part tables (apart * k) k)
+    block-same =
+        passing-same tables before starts rows r k R (apart * starts + above) A (digits_lt ha hb)
+        ∙ ap (λ (q : ℕ). length (part tables (q * k) k)) (digits_div apart hb)
+
+    pub block-addable : apart + above ≤ r → Addable (part sums ((apart * starts + above) * k) k) (part tables (apart * k) k)
+    block-addable l =
+        subst (λ (q : ℕ). Addable (part sums ((apart * starts + above) * k) k) (part tables (q * k) k)) (digits_div apart hb)
+        (passing-addable tables before starts rows r k R (apart * starts + above) A (digits_lt ha hb) (rw (digits_div apart hb, digits_mod apart hb) l))
+
+    pub block-turn : {new : List ℤ}
+        → new ≡ tabulate (length (part sums ((apart * starts + above) * k) k)) (λ c. at (part sums ((apart * starts + above) * k) k) c +ℤ if_passed rows r (apart + above) (at (part tables (apart * k) k) c))
+        → Reached (passing tables before starts rows r k) before
+        (take ((apart * starts + above) * k) sums ++ (new ++ drop ((apart * starts + above) * k + k - (apart * starts + above) * k) (drop ((apart * starts + above) * k) sums)))
+        ((apart * starts + above + 1) * k)
+    block-turn e =
+        passing-turn tables before starts rows r k R (apart * starts + above) A (digits_lt ha hb)
+        (e
+        ∙ (λ i. tabulate (length (part sums ((apart * starts + above) * k) k)) (λ c. at (part sums ((apart * starts + above) * k) k) c
+        +ℤ if_passed rows r (sym (digits_div apart hb) i + sym (digits_mod apart hb) i) (at (part tables (sym (digits_div apart hb) i * k) k) c))))

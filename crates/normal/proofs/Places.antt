@@ -1,7 +1,7 @@
 -- Places in a table of n × n numbers, and in blocks of k numbers: those before them, and the row and the column of each. Assumes nothing.
 use mathlib.Core.Path.{◌≡◌, sym, ap, ◌∙◌}
 use Prim.Native.Nat.{ℕ, zero, suc, ◌+◌, ◌-◌, ◌*◌, ◌/◌, ◌%◌, ◌≤◌, ◌<◌}
-use native.Mathlib.Nat.{add-le-add, mul_comm, mul-one, mul-le-mul_left, mul-le-mul_right, suc-mul, le_refl, le_trans, le_of_eq, lt_of_lt_of_le, not-suc-le-zero, div-lt_iff_lt-mul, div-add-mod', mod-lt}
+use native.Mathlib.Nat.{mul_comm, mul-le-mul_left, mul-le-mul_right, suc-mul, le_trans, le_of_eq, lt_of_lt_of_le, not-suc-le-zero, div-lt_iff_lt-mul, mod-lt}
 use native.Mathlib.Numerals.{add-one, add-one-le}
 use native.Mathlib.Omega.{arith}
 use lib.Arith.{digits_div, digits_mod}
@@ -52,10 +52,6 @@ module _ (n z : ℕ) (h : z < n * n) where
 
   pub remainder : z % n < n
   remainder = mod-lt z positive
-
-  pub digits_le : z / n + z % n ≤ z
-  digits_le =
-      le_trans (add-le-add (le_trans (le_of_eq (sym (mul-one (z / n)))) (mul-le-mul_left (z / n) positive)) (le_refl (z % n))) (le_of_eq (div-add-mod' z n))
 
 -- equal entries
 pub rows_ext : (n : ℕ) (f g : ℕ → ℕ → ℤ) → ((a b : ℕ) → a < n → b < n → f a b ≡ g a b) → by_rows n f ≡ by_rows n g

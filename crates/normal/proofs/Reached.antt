@@ -9,14 +9,12 @@ use lib.IntN.{ℤ, pos, nat_abs, ◌+ℤ◌, +ℤ_idr}
 use lib.ListN.{length, take, drop, set, length-set}
 use lib.Seq.{ext_get_or, get_or-set_same, get_or-set_other}
 use mir.Syntax.{w64}
-use mir.Val.{SFits, of_z, to_z}
 use Rattle.laws.specs.Table.{tabulate}
 use Rattle.laws.proofs.Table.{length-tabulate, get_d_tabulate}
 use Rattle.laws.proofs.Is.{Is, known}
 use Rattle.laws.proofs.Order.{lt-or-ge}
 use Rattle.noise.specs.Lines.{at}
 use Rattle.noise.proofs.LineSums.{entry, size}
-use Rattle.normal.proofs.Overlaps.{kept}
 use Rattle.normal.proofs.Stored.{Stored, stored}
 
 -- a list is the table of its entries
@@ -52,14 +50,6 @@ module _ (g : ℕ → ℤ) (before : List ℤ) where
           there = λ i h. ⊎_elim (λ q. early i q ∙ R.there i q) (λ q. new i q h) (lt-or-ge i k);
           rest = λ i h. late i h ∙ R.rest i (le_trans o h);
         }
-
-    -- a loop inside begins with the list as it is, and goes on from there
-    pub reached-inside : Reached g now now k
-    reached-inside = record { count = le_trans R.count (le_of_eq (sym R.same)); same = refl; there = R.there; rest = λ i h. refl }
-
-    pub reached-after : {now' : List ℤ} (e : ℕ) → k ≤ e → Reached g now now' e → Reached g before now' e
-    reached-after {now'} e o S =
-        grows now' e o (le_trans S.count (le_of_eq R.same)) S.same (λ i h. S.there i (lt_of_lt_of_le h o) ∙ sym (R.there i h)) (λ i h l. S.there i l) (λ i h. S.rest i h)
 
     -- one place
     pub reached-turn : (v : ℤ) → k < length before → v ≡ g k → Reached g before (set now k v) (k + 1)
@@ -106,5 +96,5 @@ plus before more i = at before i +ℤ more i
 
 module _ (before : List ℤ) (more : ℕ → ℤ) {now : List ℤ} (k : ℕ) (R : Reached (plus before more) before now k) where
   -- each out of its local
-  pub added_is : {y : ℤ} → SFits w64 (at now k) → y ≡ more k → nat_abs (plus before more k) < 2 ^ 63 → Is w64 (to_z w64 (of_z w64 (at now k)) +ℤ y) (plus before more k)
-  added_is f e h = known (λ j. kept f (R.rest k (omega arith)) j +ℤ e j) h
+  pub added_is : {x y : ℤ} → x ≡ at now k → y ≡ more k → nat_abs (plus before more k) < 2 ^ 63 → Is w64 (x +ℤ y) (plus before more k)
+  added_is f e h = let g = R.rest k (omega arith) in known (λ j. (f ∙ g) j +ℤ e j) h

@@ -2,7 +2,7 @@
 use mathlib.Core.Path.{◌≡◌, ap}
 use mathlib.Core.List.{List}
 use Prim.Native.Nat.{ℕ, ◌+◌, ◌*◌, ◌≤◌, ◌<◌}
-use native.Mathlib.Nat.{le_trans, le_of_eq, lt_of_lt_of_le, mul-le-mul, mul-le-mul_right}
+use native.Mathlib.Nat.{le_trans, le_of_eq, lt_of_lt_of_le, mul-le-mul_right}
 use native.Mathlib.Omega.{arith}
 use lib.Dec.{lit≤}
 use lib.IntN.{ℤ, nat_abs}
@@ -40,12 +40,6 @@ module _ {v : View} {source denoised : List ℕ} {n side : ℕ} (P : Plot v sour
 
   few : n ≤ side_limit
   few = omega (arith, P.wide, P.some, P.seen.narrow)
-
-  pub side-few : side * side ≤ (side_limit + 1) * (side_limit + 1)
-  side-few = mul-le-mul least least
-    where
-      least : side ≤ side_limit + 1
-      least = omega (arith, P.wide, P.seen.narrow)
 
   -- ---- rows u and l
   module _ (u l : ℕ) (hu : u < v.height) (hl : l < v.height) where

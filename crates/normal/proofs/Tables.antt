@@ -3,7 +3,7 @@ use mathlib.Core.Path.{◌≡◌, sym, ◌∙◌}
 use mathlib.Core.Bool.{Bool}
 use mathlib.Core.List.{List}
 use Prim.Native.Nat.{ℕ, ◌+◌, ◌-◌, ◌*◌, ◌<◌}
-use native.Mathlib.Nat.{div-eq_of_lt, mod-eq_of_lt, lt_trans, lt_of_lt_of_le, le_of_eq}
+use native.Mathlib.Nat.{div-eq_of_lt, mod-eq_of_lt, lt_of_lt_of_le, le_of_eq}
 use native.Mathlib.Omega.{arith}
 use lib.Arith.{digits_lt, digits_div, digits_mod}
 use lib.IntN.{ℤ}
@@ -22,9 +22,6 @@ module _ {up lo : List ℤ} {twin : Bool} {n side a b : ℕ} {table : List ℤ} 
 
   -- one place before
   module _ (b-on : 0 < b) where
-    pub back_in : (a - 1) * side + (b - 1) < length table
-    back_in = lt_trans (place-back side a b a-on b-on) here
-
     pub back_is : at table ((a - 1) * side + (b - 1)) ≡ sums (a - 1) (b - 1)
     back_is =
         let l : b - 1 < side = omega (arith, N.lo-start) in
@@ -34,9 +31,6 @@ module _ {up lo : List ℤ} {twin : Bool} {n side a b : ℕ} {table : List ℤ} 
   module _ (b-off : b ≡ 0) where
     first : a < a * side + b
     first = lt_of_lt_of_le (first-row side a a-on N.up_start) (omega arith)
-
-    pub mirror-in : a < length table
-    mirror-in = lt_trans first here
 
     pub mirror-is : up ≡ lo → at table a ≡ sums a b
     mirror-is e =

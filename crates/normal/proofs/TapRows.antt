@@ -3,7 +3,7 @@ use mathlib.Core.Path.{◌≡◌, refl, sym, ap, ◌∙◌, subst}
 use mathlib.Core.List.{List, ◌++◌}
 use mathlib.Core.Logic.{⊎_elim}
 use Prim.Native.Nat.{ℕ, ◌+◌, ◌-◌, ◌*◌, ◌^◌, ◌≤◌, ◌<◌, min}
-use native.Mathlib.Nat.{le_trans, le_of_eq, lt_of_lt_of_le, mul-le-mul_right, zero-mul, min-eq_left, min-eq_right, min-le_left, min-le_right}
+use native.Mathlib.Nat.{le_trans, le_of_eq, lt_of_lt_of_le, mul-le-mul_right, min-eq_left, min-eq_right, min-le_left, min-le_right}
 use native.Mathlib.Omega.{arith}
 use lib.IntN.{ℤ, nat_abs, ◌+ℤ◌}
 use lib.ListN.{length, take, drop}
@@ -12,7 +12,9 @@ use Rattle.laws.proofs.Table.{tabulate-same}
 use Rattle.laws.proofs.Order.{lt-or-ge}
 use Rattle.frame.specs.declared.view.View.{View}
 use Rattle.noise.specs.Lines.{at}
-use Rattle.noise.specs.Seen.{noise_at}
+use Rattle.noise.specs.Seen.{Seen, noise_at}
+use Rattle.noise.specs.PlanePair.{noise_in}
+use Rattle.noise.specs.declared.plane_pair.PlanePair.{PlanePair}
 use Rattle.noise.proofs.LineSums.{entry, size}
 use Rattle.positions.specs.Counts.{side, factors}
 use Rattle.positions.proofs.Counts.{factors-le, factors-rows}
@@ -22,7 +24,7 @@ use Rattle.normal.specs.Blocks.{Addable}
 use Rattle.normal.specs.Taps.{tap_of, row_tap, plus_taps, TapRow, TapAdd}
 use Rattle.normal.proofs.Places.{row-end}
 use Rattle.normal.proofs.Overlaps.{start-ext}
-use Rattle.normal.proofs.Reached.{Reached, reached-starts, reached-ends, part-long}
+use Rattle.normal.proofs.Reached.{Reached, reached-ends, part-long}
 use Rattle.normal.proofs.Filling.{filling}
 use Rattle.normal.proofs.RowLines.{line_small}
 
@@ -30,12 +32,6 @@ use Rattle.normal.proofs.RowLines.{line_small}
 pub record Tapping (f : Picture) (q : ℕ → ℤ) (w lag y : ℕ) (before row : List ℤ) (u : ℕ) : Type 0 where
   pub sized : length before ≡ factors lag
   pub reached : Reached (row_tap f q w lag y) before row (min (u * side lag) (factors lag))
-
-pub tapping-starts : (f : Picture) (q : ℕ → ℤ) (w lag y : ℕ) {before : List ℤ} → length before ≡ factors lag → Tapping f q w lag y before before 0
-tapping-starts f q w lag y e = record { sized = e; reached = rw (zero-mul (side lag), min-eq_left none) (reached-starts _ _) }
-  where
-    none : 0 ≤ factors lag
-    none = omega arith
 
 module _ {f : Picture} {q : ℕ → ℤ} {w lag y : ℕ} {before row : List ℤ} {u : ℕ} (T : Tapping f q w lag y before row u) where
   abbrev s : ℕ
@@ -88,7 +84,7 @@ module _ {f : Picture} {q : ℕ → ℤ} {w lag y : ℕ} {before row : List ℤ}
       tapping-turn {new} d = record { sized = T.sized; reached = rw (sym next) (filling s (tap_of f q w lag y) before u m here columns-in in-before d) }
 
 -- ---- a line that holds row y + u
-module _ {v : View} {source denoised : List ℕ} {y lag : ℕ} {averages : List ℤ} {line row : ℕ} (T : TapRow v source denoised y lag averages line row)
+module _ {v : View} {source denoised : List ℕ} {y lag : ℕ} {averages : List ℤ} {line row : ℕ} (S : Seen v source denoised) (T : TapRow v y lag averages line row)
     {u : ℕ} (hu : u ≤ lag) {p : List ℤ} (e : p ≡ tabulate v.width (noise_at source denoised v (y + u))) where
   abbrev noises : ℕ → ℤ
   noises = noise_at source denoised v (y + u)
@@ -98,8 +94,8 @@ module _ {v : View} {source denoised : List ℕ} {y lag : ℕ} {averages : List 
       record {
         up-long = omega (arith, size v.width noises e, T.window.columns);
         lo-long = omega (arith, T.averages-length, T.window.columns);
-        few = omega (arith, T.seen.narrow);
-        up_small = line_small T.seen (y + u) (omega (arith, T.inside)) e;
+        few = omega (arith, S.narrow);
+        up_small = line_small S (y + u) (omega (arith, T.inside)) e;
         lo_small = T.averages-small;
       }
 
@@ -111,20 +107,20 @@ module _ {v : View} {source denoised : List ℕ} {y lag : ℕ} {averages : List 
       (λ x h. entry v.width noises e (c + x) (omega (arith, T.window.columns))) (λ x h. refl))
 
 -- ---- a row's sums, added to those of the rows before
-module _ {v : View} {source denoised : List ℕ} {y lag : ℕ} {averages : List ℤ} {line row : ℕ} {taps : List ℤ} (A : TapAdd v source denoised y lag averages line row taps)
-    {r : List ℤ} (e : r ≡ tabulate (factors lag) (row_tap (noise_at source denoised v) (at averages) v.width lag y)) where
+module _ {p : PlanePair} {y lag : ℕ} {averages : List ℤ} {line : ℕ} {taps : List ℤ} (A : TapAdd p y lag averages line taps)
+    {r : List ℤ} (e : r ≡ tabulate (factors lag) (row_tap (noise_in p) (at averages) p.view.width lag y)) where
   abbrev gain : ℕ → ℤ
-  gain = row_tap (noise_at source denoised v) (at averages) v.width lag y
+  gain = row_tap (noise_in p) (at averages) p.view.width lag y
 
   pub taps-addable : Addable taps r
   taps-addable =
       record {
-        same = A.taps-length ∙ sym (size (factors lag) gain e);
-        small = λ i h. let l = lt_of_lt_of_le h (le_of_eq A.taps-length) in
+        same = A.tap-row.row-length ∙ sym (size (factors lag) gain e);
+        small = λ i h. let l = lt_of_lt_of_le h (le_of_eq A.tap-row.row-length) in
             subst (λ (z : ℤ). nat_abs (at taps i +ℤ z) < 2 ^ 63) (sym (entry (factors lag) gain e i l)) (A.small i l);
       }
 
-  pub taps-added : {new : List ℤ} → new ≡ tabulate (length taps) (λ i. at taps i +ℤ at r i) → new ≡ plus_taps (noise_at source denoised v) (at averages) v.width lag y taps
+  pub taps-added : {new : List ℤ} → new ≡ tabulate (length taps) (λ i. at taps i +ℤ at r i) → new ≡ plus_taps (noise_in p) (at averages) p.view.width lag y taps
   taps-added d =
-      d ∙ ap (λ (m : ℕ). tabulate m (λ i. at taps i +ℤ at r i)) A.taps-length
+      d ∙ ap (λ (m : ℕ). tabulate m (λ i. at taps i +ℤ at r i)) A.tap-row.row-length
       ∙ tabulate-same (factors lag) _ _ (λ i l. ap (λ (z : ℤ). at taps i +ℤ z) (entry (factors lag) gain e i l))

@@ -1,5 +1,5 @@
 -- The sums with the luma tap while the rows pass: the state before the first row, after a row and after the last, and the room for another row. Assumes nothing.
-use mathlib.Core.Path.{◌≡◌, refl, ◌∙◌}
+use mathlib.Core.Path.{◌≡◌, refl, sym, ap, ◌∙◌}
 use mathlib.Core.List.{List}
 use Prim.Native.Nat.{ℕ, ◌+◌, ◌-◌, ◌*◌, ◌/◌, ◌%◌, ◌^◌, ◌≤◌, ◌<◌}
 use native.Mathlib.Nat.{le_trans, le_of_eq, lt_of_le_of_lt, lt_of_lt_of_le, lt_trans, add_comm, add-le-add, mul-le-mul_right, div-lt_iff_lt-mul, mod-lt}
@@ -15,17 +15,20 @@ use Rattle.laws.proofs.Table.{tabulate-same}
 use Rattle.laws.proofs.Sums.{sum_more, sum_bound}
 use Rattle.laws.proofs.Whole.{abs-add}
 use Rattle.laws.proofs.Is.{Is}
-use Rattle.frame.specs.declared.view.Geometry.{Geometry}
+use Rattle.frame.specs.declared.view.View.{View}
 use Rattle.noise.specs.Noise.{noise_of}
 use Rattle.noise.specs.Lines.{at, noise_limit}
-use Rattle.noise.specs.Seen.{Seen, seen, noise_at}
-use Rattle.noise.specs.Average.{luma_seen, quarters}
+use Rattle.noise.specs.PlanePair.{shown, noise_in}
+use Rattle.noise.specs.declared.plane_pair.PlanePair.{PlanePair}
+use Rattle.noise.specs.Average.{quarters}
 use Rattle.noise.proofs.Over.{average-le}
 use Rattle.noise.proofs.LineSums.{entry, size, rows-turn}
 use Rattle.positions.specs.Counts.{side, factors}
 use Rattle.positions.proofs.Counts.{factors-le}
 use Rattle.normal.specs.Normal.{Picture, tap_entry, tap_square}
 use Rattle.normal.specs.Calls.{Window, TapSums}
+use Rattle.normal.specs.ShownFrame.{geometry_in, luma_in}
+use Rattle.normal.specs.declared.shown_frame.ShownFrame.{ShownFrame}
 use Rattle.normal.specs.Starts.{start_sum, average_limit}
 use Rattle.normal.specs.Blocks.{Zeros}
 use Rattle.normal.specs.Taps.{row_tap, plus_taps, squares_after, taps_after, TapAdd, AverageRoom, TapRows, TapsHeld}
@@ -123,86 +126,78 @@ module _ (f q : Picture) (w lag : ℕ) where
         rows = omega arith
 
 -- ---- of a frame
-module _ {g : Geometry} {y y-denoised cb cb-denoised cr cr-denoised : List ℕ} {lag sums averages line row : ℕ} {cb-taps cr-taps : List ℤ}
-    (P : TapRows g y y-denoised cb cb-denoised cr cr-denoised lag sums averages line row cb-taps cr-taps) where
+module _ (f : ShownFrame) {lag sums averages line : ℕ} {cb-taps cr-taps : List ℤ} (P : TapRows (geometry_in f) lag sums averages line cb-taps cr-taps) where
   abbrev w : ℕ
-  w = g.chroma.width
+  w = f.cb.view.width
 
   abbrev h : ℕ
-  h = g.chroma.height
+  h = f.cb.view.height
 
   abbrev tap : Picture
-  tap = quarters (luma_seen g y y-denoised)
+  tap = quarters (luma_in f)
 
-  pub held_none : TapsHeld g y y-denoised cb cb-denoised cr cr-denoised lag 0 (pos 0) cb-taps cr-taps
+  pub held_none : TapsHeld f lag 0 (pos 0) cb-taps cr-taps
   unfolding total
-  held_none = record { squares-are = refl; cb-are = taps-none (noise_at cb cb-denoised g.chroma) tap w lag P.cb-nothing; cr-are = taps-none (noise_at cr cr-denoised g.chroma) tap w lag P.cr-nothing }
+  held_none = record { squares-are = refl; cb-are = taps-none (noise_in f.cb) tap w lag P.cb-nothing; cr-are = taps-none (noise_in f.cr) tap f.cr.view.width lag P.cr-nothing }
 
   average-small : (r c : ℕ) → r < h → c < w → nat_abs (tap r c) ≤ average_limit
-  average-small r c l = average-le P.frame.over P.frame.luma l c
+  average-small r c l = average-le f.over f.luma.seen l c
 
   -- in row m + lag
   module _ (m : ℕ) (in_rows : m < h - lag) where
     row_below : m + lag < h
     row_below = omega arith
 
-    pub average-room : {sums averages : ℕ} → sums ≡ g.luma.width → averages ≡ w → AverageRoom g y y-denoised (m + lag) (w - 2 * lag) lag sums averages
-    average-room e d =
-        record {
-          luma = P.frame.luma;
-          over = P.frame.over;
-          row = row_below;
-          columns = omega (arith, P.window.columns);
-          few = omega (arith, P.frame.cb.narrow);
-          sums-length = e;
-          averages-length = d;
-        }
+    pub average-room : {sums averages : ℕ} → sums ≡ f.luma.view.width → averages ≡ w → AverageRoom (geometry_in f) (m + lag) lag sums averages
+    average-room e d = record { row = row_below; columns = P.window.columns; sums-length = e; averages-length = d }
 
     pub squares-turn : {a : ℤ} (t : ℤ) → a ≡ squares_after tap w lag m → t ≡ start_sum (tap (m + lag)) (tap (m + lag)) (w - 2 * lag) lag lag
         → Is w64 (a +ℤ to_z w64 (of_z w64 t)) (squares_after tap w lag (m + 1))
     squares-turn t e d =
         rows-turn (λ y. start_sum (tap (y + lag)) (tap (y + lag)) (w - 2 * lag) lag lag) (side_limit * (average_limit * average_limit)) (h - lag)
         (lt_of_le_of_lt (mul-le-mul_right (side_limit * (average_limit * average_limit)) rows) (lit< tt))
-        (squares-le tap w lag h P.window P.frame.cb.narrow average-small) m t in_rows e d
+        (squares-le tap w lag h P.window f.cb.seen.narrow average-small) m t in_rows e d
       where
         rows : h - lag ≤ side_limit
-        rows = omega (arith, P.frame.cb.low)
+        rows = omega (arith, f.cb.seen.low)
 
-    pub component-add : {source denoised : List ℕ} → Seen g.chroma source denoised → {taps filled : List ℤ} {line row : ℕ}
-        → taps ≡ tabulate (factors lag) (taps_after (noise_at source denoised g.chroma) tap w lag m) → filled ≡ tabulate w (tap (m + lag)) → line ≡ w → row ≡ factors lag
-        → TapAdd g.chroma source denoised m lag filled line row taps
-    component-add {source} {denoised} S e d l k =
-        record {
-          tap-row = record {
-            seen = S;
-            window = P.window;
-            inside = row_below;
-            averages-length = size w (tap (m + lag)) d;
-            averages-small = averages-small P.frame.over P.frame.luma row_below d;
-            line-length = l;
-            row-length = k;
-          };
-          taps-length = size (factors lag) _ e;
-          small = taps-room (noise_at source denoised g.chroma) tap w lag h P.window S.narrow S.low (noise-small S) average-small m in_rows e d;
-        }
+    -- a component, which is looked at as Cb is
+    module _ (p : PlanePair) (alike : p.view ≡ f.cb.view) {taps filled : List ℤ}
+        (e : taps ≡ tabulate (factors lag) (taps_after (noise_in p) tap p.view.width lag m)) (d : filled ≡ tabulate w (tap (m + lag))) where
+      pub component-add : {room : ℕ} → room ≡ w → TapAdd p m lag filled room taps
+      component-add l =
+          record {
+            tap-row = record {
+              window = rw alike P.window;
+              inside = rw alike row_below;
+              averages-length = rw alike (size w (tap (m + lag)) d);
+              averages-small = averages-small f.over f.luma.seen row_below d;
+              line-length = rw alike l;
+              row-length = size (factors lag) _ e;
+            };
+            small = taps-room (noise_in p) tap p.view.width lag p.view.height (rw alike P.window) p.seen.narrow p.seen.low (noise-small p.seen) (rw alike average-small) m (rw alike in_rows) e (rw alike d);
+          }
+
+      pub component-more : {taps' : List ℤ} → taps' ≡ plus_taps (noise_in p) (at filled) p.view.width lag m taps → taps' ≡ tabulate (factors lag) (taps_after (noise_in p) tap p.view.width lag (m + 1))
+      component-more g = taps-more (noise_in p) tap p.view.width lag m (rw alike P.window.columns) (rw alike d) e g
 
 -- all rows, of what the geometry shows
-pub held_all : {g : Geometry} {y y-denoised cb cb-denoised cr cr-denoised : List ℕ} {lag : ℕ} {squares result : ℤ} {cb-taps cr-taps : List ℤ} → Window g.chroma.width g.chroma.height lag
-    → TapsHeld g y y-denoised cb cb-denoised cr cr-denoised lag (g.chroma.height - lag) squares cb-taps cr-taps
-    → result ≡ squares → TapSums (luma_seen g y y-denoised) (seen g.chroma cb cb-denoised) (seen g.chroma cr cr-denoised) lag result cb-taps cr-taps
-held_all {g} {y} {y-denoised} {cb} {cb-denoised} {cr} {cr-denoised} {lag} W H e =
+pub held_all : {f : ShownFrame} {lag : ℕ} {squares result : ℤ} {cb-taps cr-taps : List ℤ} → Window f.cb.view.width f.cb.view.height lag
+    → TapsHeld f lag (f.cb.view.height - lag) squares cb-taps cr-taps → result ≡ squares → TapSums (luma_in f) (shown f.cb) (shown f.cr) lag result cb-taps cr-taps
+held_all {f} {lag} W H e =
     record {
-      squares-are = e ∙ H.squares-are ∙ squares-all q g.chroma.width lag g.chroma.height;
-      cb-are = H.cb-are ∙ all cb cb-denoised;
-      cr-are = H.cr-are ∙ all cr cr-denoised;
+      squares-are = e ∙ H.squares-are ∙ squares-all q f.cb.view.width lag f.cb.view.height;
+      cb-are = H.cb-are ∙ all f.cb refl;
+      cr-are = H.cr-are ∙ all f.cr f.alike;
     }
   where
     q : Picture
-    q = quarters (luma_seen g y y-denoised)
+    q = quarters (luma_in f)
 
-    all : (source denoised : List ℕ) → tabulate (factors lag) (taps_after (noise_at source denoised g.chroma) q g.chroma.width lag (g.chroma.height - lag))
-        ≡ tabulate (factors lag) (tap_entry (noise_of (seen g.chroma source denoised)) q g.chroma.width g.chroma.height lag)
-    all source denoised =
-        tabulate-same (factors lag) _ _ (λ i k.
-        taps-all (noise_at source denoised g.chroma) q g.chroma.width lag g.chroma.height i
-        ∙ window-ext g.chroma.width g.chroma.height lag _ _ q q (neighbour-seen g.chroma source denoised W i k) (λ y x p. refl))
+    all : (p : PlanePair) → p.view ≡ f.cb.view → tabulate (factors lag) (taps_after (noise_in p) q p.view.width lag (f.cb.view.height - lag))
+        ≡ tabulate (factors lag) (tap_entry (noise_of (shown p)) q p.view.width p.view.height lag)
+    all p alike =
+        ap (λ (v : View). tabulate (factors lag) (taps_after (noise_in p) q p.view.width lag (v.height - lag))) (sym alike)
+        ∙ tabulate-same (factors lag) _ _ (λ i k.
+        taps-all (noise_in p) q p.view.width lag p.view.height i
+        ∙ window-ext p.view.width p.view.height lag _ _ q q (neighbour-seen p.view p.source.now p.denoised.now (rw alike W) i k) (λ y x p. refl))

@@ -2,6 +2,7 @@
 pub mod Normal
 pub mod Layout
 pub mod Calls
+pub mod ShownFrame
 -- how the work is divided: the contracts of the parts
 pub mod Starts
 pub mod Blocks

@@ -1,9 +1,14 @@
 -- "The exact sum adds the same products as whole numbers": the products of two lines, by the place at which each line starts.
-use Rattle.std.specs.Prelude.{◌≡◌, Bool, true, List, ℕ, ◌+◌, ◌*◌, ◌/◌, ◌%◌, ◌≤◌, ◌<◌, ℤ, ◌*ℤ◌, length}
+use Rattle.std.specs.Prelude.{◌≡◌, Bool, true, List, ℕ, ◌+◌, ◌*◌, ◌/◌, ◌%◌, ◌≤◌, ◌<◌, ℤ, ◌*ℤ◌, length, Option, option_map, unwrap_or}
+use Rattle.std.specs.Borrow.{Bor}
 use Rattle.laws.specs.Limits.{side_limit}
 use Rattle.laws.specs.Sums.{total, sum_to}
 use Rattle.laws.specs.Table.{tabulate}
 use Rattle.noise.specs.Lines.{at, AtMost, noise_limit}
+
+-- the upper of two lines, which is the lower one where no other is given
+abbrev pub upper : Option (Bor (List ℤ)) → List ℤ → List ℤ
+upper up lo = unwrap_or (option_map (λ l. l.now) up) lo
 
 -- f a × g b + f (a + 1) × g (b + 1) + .., n products
 unfoldable pub start_sum : (ℕ → ℤ) → (ℕ → ℤ) → ℕ → ℕ → ℕ → ℤ

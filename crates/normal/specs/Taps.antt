@@ -1,16 +1,18 @@
 -- "Chroma has one coefficient more, for the luma tap": the sums of a row's noise and its luma averages, row after row.
 use Rattle.std.specs.Prelude.{◌≡◌, List, ℕ, ◌+◌, ◌-◌, ◌*◌, ◌^◌, ◌≤◌, ◌<◌, ℤ, nat_abs, ◌+ℤ◌, length}
-use Rattle.laws.specs.Limits.{side_limit}
 use Rattle.laws.specs.Sums.{sum_to}
 use Rattle.laws.specs.Table.{tabulate}
 use Rattle.frame.specs.declared.view.View.{View}
 use Rattle.frame.specs.declared.view.Geometry.{Geometry}
 use Rattle.noise.specs.Lines.{at, AtMost}
-use Rattle.noise.specs.Seen.{Seen, Over, SeenFrame, noise_at}
-use Rattle.noise.specs.Average.{Luma, luma_seen, quarters}
+use Rattle.noise.specs.PlanePair.{noise_in}
+use Rattle.noise.specs.declared.plane_pair.PlanePair.{PlanePair}
+use Rattle.noise.specs.Average.{Luma, quarters}
 use Rattle.positions.specs.Counts.{side, factors}
 use Rattle.normal.specs.Normal.{Picture}
 use Rattle.normal.specs.Calls.{Window}
+use Rattle.normal.specs.ShownFrame.{luma_in}
+use Rattle.normal.specs.declared.shown_frame.ShownFrame.{ShownFrame}
 use Rattle.normal.specs.Starts.{start_sum, average_limit, by_blocks}
 use Rattle.normal.specs.Blocks.{Zeros}
 
@@ -28,8 +30,7 @@ abbrev pub plus_taps : Picture → (ℕ → ℤ) → ℕ → ℕ → ℕ → Lis
 plus_taps f q w lag y taps = tabulate (factors lag) (λ i. at taps i +ℤ row_tap f q w lag y i)
 
 -- a view that holds a window with row y + lag, the averages of that row, and room for a line and for a sum for each neighbour
-pub record TapRow (v : View) (source denoised : List ℕ) (y lag : ℕ) (averages : List ℤ) (line row : ℕ) : Type 0 where
-  pub seen : Seen v source denoised
+pub record TapRow (v : View) (y lag : ℕ) (averages : List ℤ) (line row : ℕ) : Type 0 where
   pub window : Window v.width v.height lag
   pub inside : y + lag < v.height
   pub averages-length : length averages ≡ v.width
@@ -38,18 +39,14 @@ pub record TapRow (v : View) (source denoised : List ℕ) (y lag : ℕ) (average
   pub row-length : row ≡ factors lag
 
 -- the sums of the rows before, to which an i64 can add this row's
-pub record TapAdd (v : View) (source denoised : List ℕ) (y lag : ℕ) (averages : List ℤ) (line row : ℕ) (taps : List ℤ) : Type 0 where
-  pub tap-row : TapRow v source denoised y lag averages line row
-  pub taps-length : length taps ≡ factors lag
-  pub small : (i : ℕ) → i < factors lag → nat_abs (at taps i +ℤ row_tap (noise_at source denoised v) (at averages) v.width lag y i) < 2 ^ 63
+pub record TapAdd (p : PlanePair) (y lag : ℕ) (averages : List ℤ) (line : ℕ) (taps : List ℤ) : Type 0 where
+  pub tap-row : TapRow p.view y lag averages line (length taps)
+  pub small : (i : ℕ) → i < factors lag → nat_abs (at taps i +ℤ row_tap (noise_in p) (at averages) p.view.width lag y i) < 2 ^ 63
 
 -- ---- the averages of chroma row r, and n of their squares
-pub record AverageRoom (g : Geometry) (source denoised : List ℕ) (r n lag sums averages : ℕ) : Type 0 where
-  pub luma : Seen g.luma source denoised
-  pub over : Over g
+pub record AverageRoom (g : Geometry) (r lag sums averages : ℕ) : Type 0 where
   pub row : r < g.chroma.height
-  pub columns : lag + n ≤ g.chroma.width
-  pub few : n ≤ side_limit
+  pub columns : 2 * lag ≤ g.chroma.width
   pub sums-length : sums ≡ g.luma.width
   pub averages-length : averages ≡ g.chroma.width
 
@@ -58,13 +55,11 @@ pub record AverageSquares (l : Luma) (w r n lag : ℕ) (squares : ℤ) (averages
   pub averages-are : averages ≡ tabulate w (quarters l r)
 
 -- ---- all rows: room for their lines, and sums of nothing yet
-pub record TapRows (g : Geometry) (y y-denoised cb cb-denoised cr cr-denoised : List ℕ) (lag sums averages line row : ℕ) (cb-taps cr-taps : List ℤ) : Type 0 where
-  pub frame : SeenFrame g y y-denoised cb cb-denoised cr cr-denoised
+pub record TapRows (g : Geometry) (lag sums averages line : ℕ) (cb-taps cr-taps : List ℤ) : Type 0 where
   pub window : Window g.chroma.width g.chroma.height lag
   pub sums-length : sums ≡ g.luma.width
   pub averages-length : averages ≡ g.chroma.width
   pub line-length : line ≡ g.chroma.width
-  pub row-length : row ≡ factors lag
   pub cb-nothing : Zeros (factors lag) cb-taps
   pub cr-nothing : Zeros (factors lag) cr-taps
 
@@ -75,7 +70,7 @@ squares_after q w lag m = sum_to (λ y. start_sum (q (y + lag)) (q (y + lag)) (w
 abbrev pub taps_after : Picture → Picture → ℕ → ℕ → ℕ → ℕ → ℤ
 taps_after f q w lag m i = sum_to (λ y. row_tap f (q (y + lag)) w lag y i) m
 
-pub record TapsHeld (g : Geometry) (y y-denoised cb cb-denoised cr cr-denoised : List ℕ) (lag m : ℕ) (squares : ℤ) (cb-taps cr-taps : List ℤ) : Type 0 where
-  pub squares-are : squares ≡ squares_after (quarters (luma_seen g y y-denoised)) g.chroma.width lag m
-  pub cb-are : cb-taps ≡ tabulate (factors lag) (taps_after (noise_at cb cb-denoised g.chroma) (quarters (luma_seen g y y-denoised)) g.chroma.width lag m)
-  pub cr-are : cr-taps ≡ tabulate (factors lag) (taps_after (noise_at cr cr-denoised g.chroma) (quarters (luma_seen g y y-denoised)) g.chroma.width lag m)
+pub record TapsHeld (f : ShownFrame) (lag m : ℕ) (squares : ℤ) (cb-taps cr-taps : List ℤ) : Type 0 where
+  pub squares-are : squares ≡ squares_after (quarters (luma_in f)) f.cb.view.width lag m
+  pub cb-are : cb-taps ≡ tabulate (factors lag) (taps_after (noise_in f.cb) (quarters (luma_in f)) f.cb.view.width lag m)
+  pub cr-are : cr-taps ≡ tabulate (factors lag) (taps_after (noise_in f.cr) (quarters (luma_in f)) f.cr.view.width lag m)

@@ -2,34 +2,31 @@
 ghost use Rattle.std.specs.Prelude.{◌≡◌, ◌≤◌, ◌+ℤ◌, length};
 ghost use Rattle.laws.specs.Table.{tabulate};
 ghost use Rattle.noise.specs.Lines.{at};
-ghost use Rattle.normal.specs.Blocks.{Zeros, Addable, if_passed, Room, Added};
+ghost use Rattle.normal.specs.Blocks.{Addable, if_passed, Room, Added};
 
-// The most numbers that a row has: 4 tables of 7 × 7.
-pub const TABLES: usize = 196;
+// At most, at lag 3: the rows from which a table's lower line may be apart, and the places at which a line may start.
+const STARTS: usize = 4;
+
+const SIDE: usize = 7;
+
+// The most numbers that a row's tables have.
+const TABLES: usize = STARTS * SIDE * SIDE;
+
+// The most sums that a lag has.
+pub const SUM_LIMIT: usize = STARTS * TABLES;
 
 // Numbers to work in, as many as any row has.
 pub fn blank_tables() -> [i64; TABLES] {
     [0; TABLES]
 }
 
-// Zeros throughout.
-pub fn clear(sums: &mut [i64])
-    ensures { Zeros (length sums.old) sums.new }
-{
-    for i in 0..sums.len() {
-        sums[i] = 0;
-    }
-}
-
-// sums[i] = sums[i] + more[i].
+// sums[i] = sums[i] + more[i]. By index, since `iter_mut` forgets what it wrote.
 pub fn add_to(sums: &mut [i64], more: &[i64])
     requires { Addable sums.old more.now }
     ensures { sums.new ≡ tabulate (length sums.old) (λ i. at sums.old i +ℤ at more.now i) }
 {
     for i in 0..sums.len() {
-        let x = sums[i];
-        let y = more[i];
-        sums[i] = x + y;
+        sums[i] += more[i];
     }
 }
 
@@ -38,30 +35,29 @@ fn add_passed(block: &mut [i64], table: &[i64], rows: usize, r: usize, low: usiz
     requires { (length block.old ≡ length table.now) × (low ≤ r → Addable block.old table.now) }
     ensures { block.new ≡ tabulate (length block.old) (λ i. at block.old i +ℤ if_passed rows r low (at table.now i)) }
 {
-    if low <= r {
-        if r - low < rows {
-            add_to(block, table);
-        }
+    if low <= r && r - low < rows {
+        add_to(block, table);
     }
 }
 
-// Adds row r's tables to the sums of those pairs of start rows that have row r as their lower row.
+// Adds row r's tables to the sums of those pairs of start rows that have row r as their lower row. By index, since `chunks_mut` forgets what was written.
 pub fn add_row(sums: &mut [i64], tables: &[i64], starts: usize, rows: usize, r: usize, k: usize)
     requires { Room sums.old tables.now starts r k }
     ensures { Added sums.old sums.new tables.now starts rows r k }
 {
-    for z in 0..starts * starts {
-        let apart = z / starts;
-        let from = z * k;
-        let to = from + k;
-        let first = apart * k;
-        let last = first + k;
-        add_passed(
-            &mut sums[from..to],
-            &tables[first..last],
-            rows,
-            r,
-            apart + z % starts,
-        );
+    for apart in 0..starts {
+        for above in 0..starts {
+            let first = apart * k;
+            let last = first + k;
+            let from = (apart * starts + above) * k;
+            let to = from + k;
+            add_passed(
+                &mut sums[from..to],
+                &tables[first..last],
+                rows,
+                r,
+                apart + above,
+            );
+        }
     }
 }

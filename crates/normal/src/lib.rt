@@ -4,9 +4,14 @@
 mod blocks;
 mod neighbours;
 mod rows;
+mod shown;
+mod shown_frame;
 mod starts;
 mod table;
 mod tap;
 
+pub use blocks::SUM_LIMIT;
 pub use neighbours::{neighbour_sum, neighbour_sums};
+pub use shown::show_frame;
+pub use shown_frame::ShownFrame;
 pub use tap::tap_sums;

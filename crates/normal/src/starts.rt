@@ -1,9 +1,9 @@
 // Sums of the products of two lines, by the place at which each starts.
 ghost use Rattle.std.specs.Prelude.{◌≡◌, ◌+◌, ◌<◌, ◌*ℤ◌, length};
 ghost use Rattle.noise.specs.Lines.{at};
-ghost use Rattle.normal.specs.Starts.{start_sum, average_limit, Overlap, Noisy};
+ghost use Rattle.normal.specs.Starts.{start_sum, Noisy};
 
-use noise::{dot, dot_wide};
+use noise::{NOISE_BLOCK, dot};
 
 // up[a] × lo[b] + up[a + 1] × lo[b + 1] + .., n products.
 pub fn start_sum(up: &[i16], lo: &[i16], n: usize, a: usize, b: usize) -> i64
@@ -12,17 +12,7 @@ pub fn start_sum(up: &[i16], lo: &[i16], n: usize, a: usize, b: usize) -> i64
 {
     let up_end = a + n;
     let lo_end = b + n;
-    dot(&up[a..up_end], &lo[b..lo_end])
-}
-
-// line[a]² + line[a + 1]² + .., n squares of luma averages.
-pub fn square_sum(line: &[i16], n: usize, a: usize) -> i64
-    requires { Overlap average_limit average_limit line.now line.now n a a }
-    ensures { result ≡ start_sum (at line.now) (at line.now) n a a }
-{
-    let end = a + n;
-    let part = &line[a..end];
-    dot_wide(part, part)
+    dot::<NOISE_BLOCK>(&up[a..up_end], &lo[b..lo_end])
 }
 
 // up[a] × lo[b].
@@ -30,9 +20,7 @@ fn product_at(up: &[i16], lo: &[i16], a: usize, b: usize) -> i64
     requires { (a < length up.now) × (b < length lo.now) }
     ensures { result ≡ at up.now a *ℤ at lo.now b }
 {
-    let x = up[a] as i64;
-    let y = lo[b] as i64;
-    x * y
+    i64::from(up[a]) * i64::from(lo[b])
 }
 
 // The sum one place on: less the first product, and one product more.

@@ -1,46 +1,40 @@
 // The sums of the products of two lines, for every two places at which they may start.
-ghost use Rattle.std.specs.Prelude.{◌≡◌, true, ◌*◌, length};
+ghost use Rattle.std.specs.Prelude.{◌≡◌, ◌-◌, ◌*◌, length, is_none};
 ghost use Rattle.noise.specs.Lines.{at};
-ghost use Rattle.normal.specs.Starts.{start_sum, by_rows, Strip, Next};
+ghost use Rattle.positions.specs.Counts.{side};
+ghost use Rattle.normal.specs.Starts.{start_sum, by_rows, upper, Strip, Next};
 
 use crate::starts::{slid_sum, start_sum};
 
-// The sum at starts a and b, from those before it in the table: one place on from starts a − 1 and b − 1. Of a line with itself the starts may change places.
-fn next_sum(
-    up: &[i16],
-    lo: &[i16],
-    twin: bool,
-    n: usize,
-    side: usize,
-    a: usize,
-    b: usize,
-    table: &[i64],
-) -> i64
-    requires { Next up.now lo.now twin n side a b table.now }
-    ensures { result ≡ start_sum (at up.now) (at lo.now) n a b }
+// The sum at starts a and b, from those before it in the table: one place on from starts a − 1 and b − 1. Where no upper line is given it is the lower one, and the starts may change places.
+fn next_sum(up: Option<&[i16]>, lo: &[i16], lag: usize, a: usize, b: usize, table: &[i64]) -> i64
+    requires { Next (upper up lo.now) lo.now (is_none up) (length lo.now - 2 * lag) (side lag) a b table.now }
+    ensures { result ≡ start_sum (at (upper up.entry lo.now)) (at lo.now) (length lo.now - 2 * lag) a b }
 {
-    if a == 0 {
-        return start_sum(up, lo, n, a, b);
-    }
-    if b == 0 {
-        if twin {
+    let side = 2 * lag + 1;
+    let n = lo.len() - 2 * lag;
+    if a > 0 {
+        if b > 0 {
+            let before = table[(a - 1) * side + (b - 1)];
+            return slid_sum(up.unwrap_or(lo), lo, n, a - 1, b - 1, before);
+        }
+        if up.is_none() {
             return table[a];
         }
-        return start_sum(up, lo, n, a, b);
     }
-    let before = table[(a - 1) * side + (b - 1)];
-    slid_sum(up, lo, n, a - 1, b - 1, before)
+    start_sum(up.unwrap_or(lo), lo, n, a, b)
 }
 
-// table[a × side + b] = up[a] × lo[b] + up[a + 1] × lo[b + 1] + .., n products. `twin` says that the lines are the same.
-pub fn line_table(up: &[i16], lo: &[i16], twin: bool, n: usize, side: usize, table: &mut [i64])
-    requires { Strip up.now lo.now n side × (twin ≡ true → up.now ≡ lo.now) × (length table.old ≡ side * side) }
-    ensures { table.new ≡ by_rows side (start_sum (at up.now) (at lo.now) n) }
+// table[a × side + b] = up[a] × lo[b] + up[a + 1] × lo[b + 1] + .., as many products as fit from every start; of the lower line with itself where no upper one is given. By index, since a sum is made from those before it.
+pub fn line_table(up: Option<&[i16]>, lo: &[i16], lag: usize, table: &mut [i64])
+    requires strip { Strip (upper up lo.now) lo.now (length lo.now - 2 * lag) (side lag) }
+    requires fits { length table.old ≡ side lag * side lag }
+    ensures { table.new ≡ by_rows (side lag) (start_sum (at (upper up.entry lo.now)) (at lo.now) (length lo.now - 2 * lag)) }
 {
+    let side = 2 * lag + 1;
     for a in 0..side {
         for b in 0..side {
-            let sum = next_sum(up, lo, twin, n, side, a, b, table);
-            table[a * side + b] = sum;
+            table[a * side + b] = next_sum(up, lo, lag, a, b, table);
         }
     }
 }

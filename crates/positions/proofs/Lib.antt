@@ -5,6 +5,7 @@ pub mod Places
 pub mod Steps
 pub mod Text
 mod Answers
+pub mod FromFn
 pub mod Neighbours
 pub mod Filter
 pub mod Range

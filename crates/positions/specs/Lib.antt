@@ -3,3 +3,4 @@ pub mod Counts
 pub mod Text
 pub mod Positions
 pub mod Neighbours
+pub mod Record

@@ -1,59 +1,85 @@
 // The neighbours that a fit takes, in coefficient order.
 #![tactic(auto)]
 
-ghost use Rattle.std.specs.Prelude.{◌≡◌, ◌≤◌, pos, ◌-ℤ◌};
-ghost use Rattle.positions.specs.Positions.{refused, positions_of};
+ghost use Rattle.std.specs.Prelude.{◌≡◌, ◌≤◌, ◌<◌, ◌/◌, ◌%◌, pos, ◌-ℤ◌};
+ghost use Rattle.positions.specs.Counts.{side};
+ghost use Rattle.positions.specs.Positions.{positions_of};
+ghost use Rattle.positions.specs.Record.{record_of};
 
-// A refusal's number; how many neighbours there are, and the row and the column of each, counted from the sample. Unused places are zero.
+use frame::Refusal;
+use std::array;
+
+// The most neighbours.
+pub const NEIGHBOUR_LIMIT: usize = 24;
+
+// How far a neighbour lies from the sample.
+#[derive(Clone, Copy, Debug, PartialEq, Eq, Default)]
+pub struct Offset {
+    pub row: i32,
+    pub column: i32,
+}
+
+// How many neighbours there are, and where each lies, without a heap. Unused places are zero.
+#[derive(Clone, Copy, Debug, PartialEq, Eq)]
+pub struct Neighbourhood {
+    pub count: usize,
+    pub places: [Offset; NEIGHBOUR_LIMIT],
+}
+
+// The answer as C has it: a refusal's number; the count, and the row and the column of each neighbour.
 #[repr(C)]
 #[derive(Clone, Copy)]
 pub struct Positions {
     pub refusal: u32,
     pub count: usize,
-    pub rows: [i32; 24],
-    pub columns: [i32; 24],
+    pub rows: [i32; NEIGHBOUR_LIMIT],
+    pub columns: [i32; NEIGHBOUR_LIMIT],
 }
 
-// k − lag
-fn offset(k: usize, lag: usize) -> i32
-    requires { (k ≤ 24) × (lag ≤ 3) }
-    ensures { result ≡ pos k -ℤ pos lag }
-{
-    k as i32 - lag as i32
-}
+impl From<Result<Neighbourhood, Refusal>> for Positions {
+    ghost from_gives = { λ outcome answer. answer ≡ record_of outcome };
 
-// A refusal's number, and zeros.
-fn refused(refusal: u32) -> Positions
-    ensures { result ≡ refused refusal }
-{
-    Positions {
-        refusal,
-        count: 0,
-        rows: [0; 24],
-        columns: [0; 24],
+    fn from(outcome: Result<Neighbourhood, Refusal>) -> Self {
+        match outcome {
+            Ok(around) => Positions {
+                refusal: 0,
+                count: around.count,
+                rows: array::from_fn(|i| around.places[i].row),
+                columns: array::from_fn(|i| around.places[i].column),
+            },
+            Err(refusal) => Positions {
+                refusal: refusal.into(),
+                count: 0,
+                rows: [0; NEIGHBOUR_LIMIT],
+                columns: [0; NEIGHBOUR_LIMIT],
+            },
+        }
     }
 }
 
 // Neighbour i stands in row i / (2 × lag + 1) − lag and column i % (2 × lag + 1) − lag.
-pub fn ar_positions(lag: usize) -> Positions
-    ensures { result ≡ positions_of lag }
+fn offset_of(i: usize, lag: usize) -> Offset
+    requires { (i < NEIGHBOUR_LIMIT) × (lag ≤ 3) }
+    ensures row { result.row ≡ pos (i / side lag) -ℤ pos lag }
+    ensures column { result.column ≡ pos (i % side lag) -ℤ pos lag }
 {
-    let refusal = frame::lag_refusal(lag);
-    if refusal != 0 {
-        return refused(refusal);
-    }
-    let mut rows = [0; 24];
-    let mut columns = [0; 24];
+    let (i, lag) = (i as i32, lag as i32);
     let side = 2 * lag + 1;
+    Offset {
+        row: i / side - lag,
+        column: i % side - lag,
+    }
+}
+
+// The neighbours of a fit of this lag.
+pub fn ar_positions(lag: usize) -> Result<Neighbourhood, Refusal>
+    ensures { record_of result ≡ positions_of lag }
+{
+    frame::ask_lag(lag)?;
     let count = 2 * lag * (lag + 1);
-    for i in 0..count {
-        rows[i] = offset(i / side, lag);
-        columns[i] = offset(i % side, lag);
+    let mut places = [Offset::default(); NEIGHBOUR_LIMIT];
+    for (i, place) in places[..count].iter_mut().enumerate() {
+        *place = offset_of(i, lag);
     }
-    Positions {
-        refusal: 0,
-        count,
-        rows,
-        columns,
-    }
+    Ok(Neighbourhood { count, places })
 }

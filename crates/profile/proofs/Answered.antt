@@ -11,7 +11,7 @@ use Rattle.frame.specs.declared.view.Component.TheVariants.{Y, CbCr}
 use Rattle.frame.proofs.Accepted.{pair-call, frame-call}
 use Rattle.frame.proofs.Facts.{Depth, LowPlane}
 use Rattle.frame.proofs.Viewed.{viewed-whole}
-use Rattle.frame.proofs.Refusal.{answer-refused, answer-granted}
+use Rattle.frame.proofs.FirstNo.{answer-refused, answer-granted}
 use Rattle.noise.specs.Seen.{Seen}
 use Rattle.noise.proofs.Accepted.{plane-seen}
 use Rattle.profile.specs.Steps.{plane_sigma16}

@@ -8,7 +8,7 @@ use lib.ListN.{length}
 use Rattle.laws.specs.Limits.{side_limit, plane_limit}
 use Rattle.frame.specs.Questions.{Question, first_no, samples_low, all_low}
 use Rattle.frame.specs.Calls.{pair_numbers, pair_refusal}
-use Rattle.frame.proofs.Refusal.{numbered, passed, first-no-append, stopped}
+use Rattle.frame.proofs.FirstNo.{numbered, passed, first-no-append, stopped}
 use Rattle.frame.proofs.Facts.{is-small, is-depth, are-each}
 use Rattle.frame.proofs.Size.{area-le}
 use Rattle.profile.specs.LowParts.{Copied}

@@ -18,7 +18,7 @@ use Rattle.frame.proofs.Size.{area-le}
 use Rattle.frame.proofs.Viewed.{viewed-length, viewed-whole}
 use Rattle.frame.proofs.Cropped.{cropped-whole, cropped-frame-call, cropped-frame-passes}
 use Rattle.frame.proofs.Accepted.{pair-call, frame-call}
-use Rattle.frame.proofs.Refusal.{refused, granted}
+use Rattle.frame.proofs.FirstNo.{refused, granted}
 use Rattle.float.specs.Steps.{sigma16_of}
 use Rattle.profile.specs.Steps.{plane_sigma16, totals, sigma_of_bin, profile}
 use Rattle.profile.specs.Answers.{sigma_of, sigma_answer, chroma_of, no_profile, luma_profile, chroma_profile, estimate_of, no_estimate, estimate_answer}

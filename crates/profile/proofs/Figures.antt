@@ -1,12 +1,15 @@
 -- The figures of a profile from its tables: the plane's squares are those of its bins, added up. Assumes nothing.
-use mathlib.Core.Path.{◌≡◌, sym, ap, ◌∙◌}
+use mathlib.Core.Path.{◌≡◌, refl, subst, sym, ap, ◌∙◌}
 use mathlib.Core.List.{List}
-use Prim.Native.Nat.{ℕ, ◌-◌, ◌*◌, ◌^◌, ◌≤◌, ◌<◌}
+use Prim.Native.Nat.{ℕ, zero, suc, ◌+◌, ◌-◌, ◌*◌, ◌^◌, ◌≤◌, ◌<◌}
 use native.Mathlib.Omega.{arith}
-use lib.ListN.{length, get_or}
-use Rattle.laws.specs.Sums.{sum_of}
+use lib.ListN.{length, get_or, take}
+use lib.Seq.{take_all}
+use Rattle.std.proofs.Common.{sum, sum_by}
+use Rattle.std.proofs.lemmas.List.Sums.{sum_by_more}
+use Rattle.laws.specs.Sums.{total, sum_n, sum_of}
 use Rattle.laws.specs.Table.{tabulate}
-use Rattle.laws.proofs.SumsN.{sum_bound}
+use Rattle.laws.proofs.SumsN.{sum_bound, sum_more}
 use Rattle.float.specs.Steps.{sigma16_of}
 use Rattle.profile.specs.Shifted.{shifted_noise, square}
 use Rattle.profile.specs.Bins.{count_of_bin, squares_of_bin}
@@ -18,6 +21,19 @@ use Rattle.profile.proofs.Range.{shifted-range, range_small}
 use Rattle.profile.proofs.Squares.{square_le}
 use Rattle.profile.proofs.StepSums.{plane-sum, totals-are}
 use Rattle.profile.proofs.AddUp.{totals-sum, squares-sum}
+
+-- the first n of a list, added up by its fold and place by place
+summed : (xs : List ℕ) (n : ℕ) → n ≤ length xs → sum_by (λ x. x) (take n xs) ≡ sum_n (λ i. get_or xs i 0) n
+unfolding total
+summed xs zero h = refl
+summed xs (suc n) h =
+    let l : n < length xs = omega arith in
+    let e : n + 1 ≡ suc n = omega arith in
+    subst (λ (k : ℕ). sum_by (λ x. x) (take k xs) ≡ sum_n (λ i. get_or xs i 0) k) e (sum_by_more (λ x. x) xs n 0 l ∙ ap (λ (k : ℕ). k + get_or xs n 0) (summed xs n (omega arith)) ∙ sum_more _ n)
+
+pub added-up : (xs : List ℕ) → sum xs ≡ sum_of xs
+unfolding sum_of
+added-up xs = ap (sum_by (λ x. x)) (sym (take_all (length xs) xs (omega arith))) ∙ summed xs (length xs) (omega arith)
 
 -- the tables that the Rust's loop makes
 module _ (bits shift : ℕ) (source denoised : List ℕ) where

@@ -3,13 +3,12 @@ use mathlib.Core.Path.{◌≡◌, refl, sym, ap, ◌∙◌}
 use mathlib.Core.Bool.{Bool, true, false, cond}
 use mathlib.Core.List.{List}
 use mathlib.Core.Logic.{◌⊎◌, inl, inr}
-use Prim.Native.Nat.{ℕ, ◌+◌, ◌*◌, ◌≤◌, ◌<◌, min, max, zero-le}
+use Prim.Native.Nat.{ℕ, ◌*◌, ◌≤◌, ◌<◌, zero-le}
 use native.Mathlib.Nat.{le_trans, le_of_eq, lt_of_lt_of_le}
 use native.Mathlib.Omega.{arith}
-use lib.Dec.{eqb, ltb}
+use lib.Dec.{eqb}
 use lib.IntN.{ℤ, pos, nat_abs}
 use lib.ListN.{length, get_or}
-use borrow.Author.Tests.{ltb-true, ltb-false}
 use Rattle.laws.specs.Table.{tabulate}
 use Rattle.noise.specs.Lines.{at}
 use Rattle.laws.specs.Sums.{sum_n}
@@ -84,21 +83,3 @@ pub record BetweenTo (bins : List ℕ) (least greatest k : ℕ) : Type 0 where
   pub count : k ≤ length bins
   pub least-is : (i : ℕ) → i < k → least ≤ get_or bins i 0
   pub greatest-is : (i : ℕ) → i < k → get_or bins i 0 ≤ greatest
-
-pub between-starts : (bins : List ℕ) (least greatest : ℕ) → BetweenTo bins least greatest 0
-between-starts bins least greatest = record { count = omega arith; least-is = λ i l. absurd (omega arith); greatest-is = λ i l. absurd (omega arith) }
-
-module _ {bins : List ℕ} {least greatest k : ℕ} (B : BetweenTo bins least greatest k) where
-  pub between-turn : k < length bins → BetweenTo bins (min least (get_or bins k 0)) (max greatest (get_or bins k 0)) (k + 1)
-  between-turn h = record { count = omega arith; least-is = λ i l. low i l (ltb i k) refl; greatest-is = λ i l. high i l (ltb i k) refl }
-    where
-      low : (i : ℕ) → i < k + 1 → (t : Bool) → ltb i k ≡ t → min least (get_or bins k 0) ≤ get_or bins i 0
-      low i l true e = omega (arith, B.least-is i (ltb-true i k e))
-      low i l false e = let d : i ≡ k = omega (arith, ltb-false i k e) in rw d (omega arith)
-
-      high : (i : ℕ) → i < k + 1 → (t : Bool) → ltb i k ≡ t → get_or bins i 0 ≤ max greatest (get_or bins k 0)
-      high i l true e = omega (arith, B.greatest-is i (ltb-true i k e))
-      high i l false e = let d : i ≡ k = omega (arith, ltb-false i k e) in rw d (omega arith)
-
-  pub between_ends : length bins ≤ k → Between bins least greatest
-  between_ends h = record { least-is = λ i l. B.least-is i (omega arith); greatest-is = λ i l. B.greatest-is i (omega arith) }

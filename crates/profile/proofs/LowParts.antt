@@ -1,7 +1,8 @@
 -- Samples below 2 ^ depth, of a lone plane or a part and of its denoised copy. A plane goes part by part: the parts ask about all its samples, and their squares add up to the plane's. Assumes nothing.
 use mathlib.Core.Path.{◌≡◌, refl, sym, ap, ◌∙◌, subst}
-use mathlib.Core.Bool.{Bool, true, false, and-eq-true_iff, false≢true}
+use mathlib.Core.Bool.{Bool, true, false, cond, ◌&&◌, and-true, and-eq-true_iff, false≢true}
 use mathlib.Core.List.{List, [], ◌∷◌}
+use Rattle.std.specs.Prelude.{Some, None}
 use Prim.Native.Nat.{ℕ, ◌+◌, ◌-◌, ◌*◌, ◌^◌, ◌≤◌, ◌<◌}
 use native.Mathlib.Nat.{le_trans, lt_of_lt_of_le, le_of_eq}
 use native.Mathlib.Omega.{arith}
@@ -36,10 +37,24 @@ is-low depth a b e =
     let p = (and-eq-true_iff (low depth a) (all_low depth (b ∷ []))).0 e in
     record { source-low = low_below depth a p.0; denoised-low = low_below depth b ((and-eq-true_iff (low depth b) true).0 p.1).0 }
 
+-- as both are asked
+pub asked-both : (depth : ℕ) (a b : List ℕ) {r s t : Bool} → r ≡ low depth a → s ≡ low depth b → (r && s) ≡ t → all_low depth (a ∷ b ∷ []) ≡ t
+unfolding all_low
+asked-both depth a b p q e = ap (λ (t : Bool). low depth a && t) (and-true (low depth b)) ∙ sym (λ i. p i && q i) ∙ e
+
 pub low-is : (depth : ℕ) (a b : List ℕ) → ((i : ℕ) → i < length a → get_or a i 0 < 2 ^ depth) → ((i : ℕ) → i < length b → get_or b i 0 < 2 ^ depth)
     → all_low depth (a ∷ b ∷ []) ≡ true
 unfolding all_low
 low-is depth a b f g = rw (below-low depth a f, below-low depth b g)
+
+-- an answer of a part: a sum, or nothing
+pub low-some : (b : Bool) {x s : ℕ} → Some x ≡ cond b (Some s) None → (b ≡ true) × (x ≡ s)
+low-some true e = (refl, cc)
+low-some false e = absurd (cc)
+
+pub low-nothing : (b : Bool) (s : ℕ) → None ≡ cond b (Some s) None → b ≡ false
+low-nothing true s e = absurd (cc)
+low-nothing false s e = refl
 
 -- a whole part is a run of every sample
 module _ {most depth : ℕ} {source denoised : List ℕ} (P : Copied most depth source denoised) (L : Low depth source denoised) where

@@ -1,21 +1,23 @@
 -- Tables of numbers: a list is the table of its entries, one store changes one entry, and a loop that goes through the entries changes all. Entry by entry. Assumes nothing.
 use mathlib.Core.Path.{◌≡◌, refl, sym, ap, ◌∙◌}
-use mathlib.Core.List.{List, ◌++◌}
+use mathlib.Core.List.{List}
 use mathlib.Core.Bool.{Bool, true, false, cond}
-use Prim.Native.Nat.{ℕ, ◌+◌, ◌≤◌, ◌<◌}
+use Prim.Native.Nat.{ℕ, ◌+◌, ◌*◌, ◌^◌, ◌≤◌, ◌<◌}
 use native.Mathlib.Nat.{lt_of_lt_of_le, le_of_eq}
 use native.Mathlib.Omega.{arith}
+use prog.Memory.{up}
+use lib.Pow.{pow_mono}
 use lib.Dec.{eqb, ltb}
-use lib.ListN.{length, get_or, set, take, drop, length-set, length-append, length-take, length-drop}
+use lib.ListN.{length, get_or, set, length-set}
 use lib.Seq.{ext_get_or, get_or-set_same, get_or-set_other}
 use borrow.Author.Tests.{eqb-true, eqb-false, eq-eqb, ne_eqb, lt-ltb, le-ltb, ltb-true, ltb-false}
 use Rattle.laws.specs.Table.{tabulate}
 use Rattle.laws.proofs.Table.{length-tabulate, get_d_tabulate, tabulate-same}
 use Rattle.profile.specs.Steps.{added}
 
--- a list whose front was lent and came back as long is as long
-pub front_length : {A : Type 0} (n : ℕ) (front l : List A) → length front ≡ length (take n l) → length (front ++ drop n l) ≡ length l
-front_length n front l e = length-append front (drop n l) ∙ omega (arith, e, length-take n l, length-drop n l)
+-- bins that few bits number take few bytes
+pub bins-held : {bits n : ℕ} → bits ≤ 8 → n ≡ 2 ^ bits → up 8 (up 8 (8 + n * 8) + n * 8) < 2 ^ 63
+bins-held {bits} {n} h e = let m : 2 ^ bits ≤ 2 ^ 8 = pow_mono h in omega (arith, e, m)
 
 pub by_entries : (l : List ℕ) (n : ℕ) (f : ℕ → ℕ) → length l ≡ n → ((i : ℕ) → i < n → get_or l i 0 ≡ f i) → l ≡ tabulate n f
 by_entries l n f e h =

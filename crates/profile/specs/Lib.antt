@@ -3,6 +3,7 @@ pub mod Shifted
 pub mod Bins
 pub mod Steps
 pub mod Answers
+pub mod Record
 pub mod Words
 -- how the work is divided: the contracts of the parts
 pub mod Parts

@@ -1,5 +1,5 @@
 -- A lone plane and its copy, and a part of both: question 6 is asked of each part, and answers for the plane.
-use Rattle.std.specs.Prelude.{◌≡◌, Bool, true, List, [], ◌∷◌, ℕ, ◌≤◌, length}
+use Rattle.std.specs.Prelude.{◌≡◌, cond, Option, Some, None, List, [], ◌∷◌, ℕ, ◌≤◌, length}
 use Rattle.frame.specs.Questions.{all_low}
 
 -- two lists of one length, at most `most`, and a depth
@@ -9,6 +9,6 @@ pub record Copied (most depth : ℕ) (source denoised : List ℕ) : Type 0 where
   pub least-depth : 8 ≤ depth
   pub most-depth : depth ≤ 12
 
--- question 6 is answered of both, and where the answer is yes, a fact holds
-abbrev pub LowThen : Bool → ℕ → List ℕ → List ℕ → Type 0 → Type 0
-LowThen answer depth source denoised fact = (answer ≡ all_low depth (source ∷ denoised ∷ [])) × (answer ≡ true → fact)
+-- question 6 is answered of both: where the answer is yes, by a sum
+abbrev pub LowThen : Option ℕ → ℕ → List ℕ → List ℕ → ℕ → Type 0
+LowThen answer depth source denoised sum = answer ≡ cond (all_low depth (source ∷ denoised ∷ [])) (Some sum) None

@@ -1,5 +1,5 @@
 // The bins of a part: how many samples lie in each, and the sum of their squares.
-ghost use Rattle.std.specs.Prelude.{◌≡◌, cond, ◌≤◌, min, max, eqb, pos, length, get_or};
+ghost use Rattle.std.specs.Prelude.{◌≡◌, cond, ◌≤◌, eqb, pos, length, get_or};
 ghost use Rattle.laws.specs.Table.{tabulate};
 ghost use Rattle.laws.specs.Sums.{sum_n};
 ghost use Rattle.noise.specs.Lines.{at};
@@ -8,6 +8,15 @@ ghost use Rattle.profile.specs.Parts.{part_limit, ShiftedLine, Binned, Between, 
 ghost use Rattle.profile.specs.Runs.{Run, Tables, Added, RunAdded};
 
 use crate::lines::bin_line;
+use noise::PlanePair;
+
+// How many samples lie in each of 2^bits bins, and the sum of their squares.
+#[derive(Clone, Copy)]
+pub struct Bins<const BINS: usize> {
+    pub bits: u32,
+    pub count: [u64; BINS],
+    pub squares: [u64; BINS],
+}
 
 // The bins between which all of a part lie.
 #[derive(Clone, Copy)]
@@ -23,58 +32,32 @@ pub struct Bin {
     pub squares: u64,
 }
 
-// The lesser of two.
-fn lesser(a: u16, b: u16) -> u16
-    ensures { result ≡ min a b }
-{
-    if b < a { b } else { a }
-}
-
-// The greater of two.
-fn greater(a: u16, b: u16) -> u16
-    ensures { result ≡ max a b }
-{
-    if a < b { b } else { a }
-}
-
 // The least and the greatest bin.
 fn range_of(bins: &[u16]) -> Range
     ensures { Between bins.now result.least result.greatest }
 {
-    let mut least = 65535;
+    let mut least = u16::MAX;
     let mut greatest = 0;
-    for i in 0..bins.len() {
-        let bin = bins[i];
-        least = lesser(least, bin);
-        greatest = greater(greatest, bin);
+    for &bin in bins {
+        least = bin.min(least);
+        greatest = bin.max(greatest);
     }
     Range { least, greatest }
 }
 
-// 1 where the bin is j, else 0.
-fn hit(bin: u16, j: u16) -> u16
-    ensures { result ≡ cond (eqb bin j) 1 0 }
-{
-    if bin == j { 1 } else { 0 }
-}
-
-// x where the bin is j, else 0.
-fn kept(bin: u16, j: u16, x: i16) -> i16
-    ensures { result ≡ cond (eqb bin j) x (pos 0) }
-{
-    if bin == j { x } else { 0 }
-}
-
-// How many are in bin j; own[i] = line[i] where bins[i] is j, else 0.
+// How many are in bin j; own[i] = line[i] where bins[i] is j, else 0. By index: a proof knows no element that `iter_mut` wrote.
 fn keep_bin(line: &[i16], bins: &[u16], j: u16, own: &mut [i16]) -> u16
-    requires { (length line.now ≡ length own.old) × (length bins.now ≡ length own.old) × (length own.old ≤ part_limit) }
-    ensures { (result ≡ line_count bins.now j) × (own.new ≡ tabulate (length own.old) (λ i. cond (eqb (get_or bins.now i 0) j) (at line.now i) (pos 0))) }
+    requires line { length line.now ≡ length own.old }
+    requires bins { length bins.now ≡ length own.old }
+    requires few { length own.old ≤ part_limit }
+    ensures count { result ≡ line_count bins.now j }
+    ensures kept { own.new ≡ tabulate (length own.old) (λ i. cond (eqb (get_or bins.now i 0) j) (at line.now i) (pos 0)) }
 {
     let mut count = 0;
     for i in 0..own.len() {
-        let bin = bins[i];
-        count = count + hit(bin, j);
-        own[i] = kept(bin, j, line[i]);
+        let hit = bins[i] == j;
+        count += u16::from(hit);
+        own[i] = if hit { line[i] } else { 0 };
     }
     count
 }
@@ -84,77 +67,76 @@ pub fn line_squares(line: &[i16]) -> u64
     requires { ShiftedLine line.now }
     ensures { result ≡ sum_n (λ i. square_of (at line.now i)) (length line.now) }
 {
-    noise::dot(line, line) as u64
+    noise::dot::<{ noise::NOISE_BLOCK }>(line, line) as u64
 }
 
 // Bin j. Bins outside the range are empty, and one that is the whole range has all samples: neither is gone through.
 fn bin_of(line: &[i16], bins: &[u16], range: Range, j: u16, own: &mut [i16]) -> Bin
-    requires { Binned line.now bins.now × Between bins.now range.least range.greatest × (length own.old ≡ length bins.now) }
-    ensures { (result.count ≡ line_count bins.now j) × (result.squares ≡ line_squares line.now bins.now j) }
+    requires binned { Binned line.now bins.now }
+    requires range { Between bins.now range.least range.greatest }
+    requires own_fits { length own.old ≡ length bins.now }
+    ensures count { result.count ≡ line_count bins.now j }
+    ensures squares { result.squares ≡ line_squares line.now bins.now j }
 {
-    if j < range.least {
-        return Bin {
+    if j < range.least || range.greatest < j {
+        Bin {
             count: 0,
             squares: 0,
-        };
-    }
-    if range.greatest < j {
-        return Bin {
-            count: 0,
-            squares: 0,
-        };
-    }
-    if range.least == range.greatest {
+        }
+    } else if range.least == range.greatest {
         let count = bins.len() as u64;
         let squares = line_squares(line);
-        return Bin { count, squares };
-    }
-    let count = keep_bin(line, bins, j, own) as u64;
-    let squares = line_squares(own);
-    Bin { count, squares }
-}
-
-// count[j] += how many are in bin j, and squares[j] += their squares, for every j.
-fn add_bins(
-    line: &[i16],
-    bins: &[u16],
-    bits: u32,
-    own: &mut [i16],
-    count: &mut [u64],
-    squares: &mut [u64],
-)
-    requires { Binned line.now bins.now × (length own.old ≡ length bins.now) × Tables bits (length bins.now) count.old squares.old }
-    ensures { Added bits count.old squares.old (line_count bins.now) (line_squares line.now bins.now) count.new squares.new }
-{
-    let range = range_of(bins);
-    for j in 0..count.len() {
-        let bin = bin_of(line, bins, range, j as u16, own);
-        count[j] = count[j] + bin.count;
-        squares[j] = squares[j] + bin.squares;
+        Bin { count, squares }
+    } else {
+        let count = keep_bin(line, bins, j, own) as u64;
+        let squares = line_squares(own);
+        Bin { count, squares }
     }
 }
 
-// The bins of a part, from a start and by a stride, added to the tables. The three lines have a place for each sample.
-pub fn add_part(
-    src: &[u16],
-    den: &[u16],
-    start: usize,
-    stride: usize,
-    depth: u8,
-    bits: u32,
-    line: &mut [i16],
-    bins: &mut [u16],
-    own: &mut [i16],
-    count: &mut [u64],
-    squares: &mut [u64],
-)
-    requires { Run depth src.now den.now start stride (length line.old) × (length line.old ≤ part_limit) × (length bins.old ≡ length line.old) × (length own.old ≡ length line.old) × Tables bits (length line.old) count.old squares.old }
-    ensures { RunAdded bits depth src.now den.now start stride (length line.old) count.old squares.old count.new squares.new }
-{
-    let shift = (depth - 8) as u32;
-    let coarse = depth as u32 - bits;
-    noise::noise_line(src, den, start, stride, own);
-    noise::shifted_line(own, shift, line);
-    bin_line(src, start, stride, coarse, bins);
-    add_bins(line, bins, bits, own, count, squares);
+impl<const BINS: usize> Bins<BINS> {
+    // A line of shifted noise and its bins, added. By index: a proof knows no element that `iter_mut` wrote.
+    fn add_line(&mut self, line: &[i16], bins: &[u16], own: &mut [i16])
+        requires binned { Binned line.now bins.now }
+        requires own_fits { length own.old ≡ length bins.now }
+        requires room { Tables self.old.bits (length bins.now) self.old.count self.old.squares }
+        ensures bits { self.new.bits ≡ self.old.bits }
+        ensures added { Added self.old.bits self.old.count self.old.squares (line_count bins.now) (line_squares line.now bins.now) self.new.count self.new.squares }
+    {
+        let range = range_of(bins);
+        for j in 0..BINS {
+            let bin = bin_of(line, bins, range, j as u16, own);
+            self.count[j] += bin.count;
+            self.squares[j] += bin.squares;
+        }
+    }
+
+    // A part of a row, from a start on, added. The three lines have a place for each sample; as one struct each call would take it apart again.
+    pub fn add_part(
+        &mut self,
+        pair: &PlanePair,
+        start: usize,
+        depth: u8,
+        line: &mut [i16],
+        bins: &mut [u16],
+        own: &mut [i16],
+    )
+        requires run { Run depth pair.now.source.now pair.now.denoised.now start pair.now.view.stride (length line.old) }
+        requires few { length line.old ≤ part_limit }
+        requires bins_fit { length bins.old ≡ length line.old }
+        requires own_fits { length own.old ≡ length line.old }
+        requires room { Tables self.old.bits (length line.old) self.old.count self.old.squares }
+        ensures bits { self.new.bits ≡ self.old.bits }
+        ensures added { RunAdded self.old.bits depth pair.now.source.now pair.now.denoised.now start pair.now.view.stride (length line.old) self.old.count self.old.squares self.new.count self.new.squares }
+    {
+        let src = pair.source;
+        let den = pair.denoised;
+        let stride = pair.view.stride;
+        let shift = (depth - 8) as u32;
+        let coarse = depth as u32 - self.bits;
+        noise::noise_line(src, den, start, stride, own);
+        noise::shifted_line(own, shift, line);
+        bin_line(src, start, stride, coarse, bins);
+        self.add_line(line, bins, own);
+    }
 }

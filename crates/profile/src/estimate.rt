@@ -1,115 +1,127 @@
 // The profiles of a frame.
-ghost use Rattle.std.specs.Prelude.{◌≡◌};
-ghost use Rattle.frame.specs.View.{viewed};
-ghost use Rattle.profile.specs.Runs.{SeenAt};
-ghost use Rattle.profile.specs.Answers.{luma_profile, chroma_profile, no_estimate, estimate_answer};
+ghost use Rattle.std.specs.Prelude.{◌≡◌, replicate};
+ghost use Rattle.profile.specs.Answers.{estimate_answer};
+ghost use Rattle.profile.specs.Record.{estimate_record};
 
-use crate::profiles::plane_profile;
+use crate::profiles::{Profile, profile_of};
 use crate::{ChromaProfile, LumaProfile, NoiseEstimate};
-use frame::{Component, Shape, View};
-
-// Eight bins, with 64 samples at least.
-fn luma_profile(src: &[u16], den: &[u16], view: View, depth: u8) -> LumaProfile
-    requires { SeenAt depth view src.now den.now }
-    ensures { result ≡ luma_profile depth (viewed view src.now) (viewed view den.now) }
-{
-    let mut bin_sigma16 = [0; 8];
-    let mut bin_count = [0; 8];
-    let mut bin_squares = [0; 8];
-    let sigma16 = plane_profile(
-        src,
-        den,
-        view,
-        depth,
-        3,
-        64,
-        &mut bin_sigma16,
-        &mut bin_count,
-        &mut bin_squares,
-    );
-    LumaProfile {
-        sigma16,
-        bin_sigma16,
-        bin_count,
-        bin_squares,
-    }
-}
-
-// Four bins, with 32 samples at least.
-fn chroma_profile(src: &[u16], den: &[u16], view: View, depth: u8) -> ChromaProfile
-    requires { SeenAt depth view src.now den.now }
-    ensures { result ≡ chroma_profile depth (viewed view src.now) (viewed view den.now) }
-{
-    let mut bin_sigma16 = [0; 4];
-    let mut bin_count = [0; 4];
-    let mut bin_squares = [0; 4];
-    let sigma16 = plane_profile(
-        src,
-        den,
-        view,
-        depth,
-        2,
-        32,
-        &mut bin_sigma16,
-        &mut bin_count,
-        &mut bin_squares,
-    );
-    ChromaProfile {
-        sigma16,
-        bin_sigma16,
-        bin_count,
-        bin_squares,
-    }
-}
-
-// The number of a refusal, and zeros.
-fn refused(number: u32) -> NoiseEstimate
-    ensures { result ≡ no_estimate number }
-{
-    let luma = LumaProfile {
-        sigma16: 0,
-        bin_sigma16: [0; 8],
-        bin_count: [0; 8],
-        bin_squares: [0; 8],
-    };
-    let chroma = ChromaProfile {
-        sigma16: 0,
-        bin_sigma16: [0; 4],
-        bin_count: [0; 4],
-        bin_squares: [0; 4],
-    };
-    NoiseEstimate {
-        refusal: number,
-        luma,
-        cb: chroma,
-        cr: chroma,
-    }
-}
+use frame::{Component, FramePair, Refusal, Shape};
+use noise::PlanePair;
 
 // The profiles of a frame's planes.
-pub fn noise_estimate(
-    s: Shape,
-    y: &[u16],
-    cb: &[u16],
-    cr: &[u16],
-    y_den: &[u16],
-    cb_den: &[u16],
-    cr_den: &[u16],
-) -> NoiseEstimate
-    ensures { result ≡ estimate_answer s y.now cb.now cr.now y_den.now cb_den.now cr_den.now }
+#[derive(Clone, Copy)]
+pub struct Estimate {
+    pub luma: Profile<8>,
+    pub cb: Profile<4>,
+    pub cr: Profile<4>,
+}
+
+impl From<Profile<8>> for LumaProfile {
+    ghost use Rattle.std.specs.Prelude.{◌≡◌};
+    ghost use Rattle.profile.specs.Record.{luma_record};
+
+    ghost from_gives = { λ profile r. r ≡ luma_record profile };
+
+    fn from(profile: Profile<8>) -> LumaProfile {
+        let Profile {
+            sigma16,
+            bin_sigma16,
+            bin_count,
+            bin_squares,
+        } = profile;
+        LumaProfile {
+            sigma16,
+            bin_sigma16,
+            bin_count,
+            bin_squares,
+        }
+    }
+}
+
+impl From<Profile<4>> for ChromaProfile {
+    ghost use Rattle.std.specs.Prelude.{◌≡◌};
+    ghost use Rattle.profile.specs.Record.{chroma_record};
+
+    ghost from_gives = { λ profile r. r ≡ chroma_record profile };
+
+    fn from(profile: Profile<4>) -> ChromaProfile {
+        let Profile {
+            sigma16,
+            bin_sigma16,
+            bin_count,
+            bin_squares,
+        } = profile;
+        ChromaProfile {
+            sigma16,
+            bin_sigma16,
+            bin_count,
+            bin_squares,
+        }
+    }
+}
+
+impl From<Result<Estimate, Refusal>> for NoiseEstimate {
+    ghost use Rattle.std.specs.Prelude.{◌≡◌};
+    ghost use Rattle.profile.specs.Record.{estimate_record};
+
+    ghost from_gives = { λ answer r. r ≡ estimate_record answer };
+
+    fn from(answer: Result<Estimate, Refusal>) -> NoiseEstimate {
+        match answer {
+            Ok(estimate) => NoiseEstimate {
+                refusal: 0,
+                luma: estimate.luma.into(),
+                cb: estimate.cb.into(),
+                cr: estimate.cr.into(),
+            },
+            Err(refusal) => NoiseEstimate {
+                refusal: refusal.into(),
+                luma: blank::<8>().into(),
+                cb: blank::<4>().into(),
+                cr: blank::<4>().into(),
+            },
+        }
+    }
+}
+
+// A profile of zeros.
+fn blank<const BINS: usize>() -> Profile<BINS>
+    ensures { result ≡ record { sigma16 = 0; bin_sigma16 = replicate BINS 0; bin_count = replicate BINS 0; bin_squares = replicate BINS 0 } }
 {
-    let refusal = frame::frame_refusal(s, y, cb, cr, y_den, cb_den, cr_den);
-    if refusal != 0 {
-        return refused(refusal);
+    Profile {
+        sigma16: 0,
+        bin_sigma16: [0; BINS],
+        bin_count: [0; BINS],
+        bin_squares: [0; BINS],
     }
+}
+
+// The profiles of a frame's planes: eight bins of luma, with 64 samples at least, and four of chroma, with 32.
+pub fn noise_estimate(s: Shape, frame: &FramePair<'_>) -> Result<Estimate, Refusal>
+    ensures { estimate_record result ≡ estimate_answer s frame.now.source.y.now frame.now.source.cb.now frame.now.source.cr.now frame.now.denoised.y.now frame.now.denoised.cb.now frame.now.denoised.cr.now }
+{
+    frame::ask_frame(s, frame)?;
+    let source = frame.source;
+    let denoised = frame.denoised;
     let chroma = frame::view_of(s, Component::CbCr);
-    let luma = luma_profile(y, y_den, frame::view_of(s, Component::Y), s.depth);
-    let blue = chroma_profile(cb, cb_den, chroma, s.depth);
-    let red = chroma_profile(cr, cr_den, chroma, s.depth);
-    NoiseEstimate {
-        refusal: 0,
-        luma,
-        cb: blue,
-        cr: red,
-    }
+    let y = PlanePair {
+        source: source.y,
+        denoised: denoised.y,
+        view: frame::view_of(s, Component::Y),
+    };
+    let cb = PlanePair {
+        source: source.cb,
+        denoised: denoised.cb,
+        view: chroma,
+    };
+    let cr = PlanePair {
+        source: source.cr,
+        denoised: denoised.cr,
+        view: chroma,
+    };
+    Ok(Estimate {
+        luma: profile_of(&y, s.depth, 3, 64),
+        cb: profile_of(&cb, s.depth, 2, 32),
+        cr: profile_of(&cr, s.depth, 2, 32),
+    })
 }

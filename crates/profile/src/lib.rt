@@ -8,8 +8,11 @@ mod parts; // a part of a lone plane
 mod planes; // sigma16 of a plane
 mod estimate; // the profiles of a frame
 
-pub use estimate::noise_estimate;
+pub use estimate::{Estimate, noise_estimate};
 pub use planes::plane_sigma16;
+pub use profiles::Profile;
+
+// Answers, as C has them.
 
 #[repr(C)]
 #[derive(Clone, Copy)]

@@ -1,7 +1,7 @@
 // The size of a part, lines for it, and the bin of each sample.
-ghost use Rattle.std.specs.Prelude.{◌≡◌, ◌<◌, min, length};
+ghost use Rattle.std.specs.Prelude.{◌≡◌, ◌<◌, length};
 ghost use Rattle.laws.specs.Table.{tabulate};
-ghost use Rattle.profile.specs.Parts.{part_limit, InPlane, coarse_at};
+ghost use Rattle.profile.specs.Parts.{InPlane, coarse_at};
 
 // The most samples of a part: few enough to stay in the cache, and to lie in few bins.
 pub const PART_LIMIT: usize = 256;
@@ -15,14 +15,7 @@ pub fn blank_bins() -> [u16; PART_LIMIT] {
     [0; PART_LIMIT]
 }
 
-// The samples of the next part, where n are left.
-pub fn part_size(n: usize) -> usize
-    ensures { result ≡ min n part_limit }
-{
-    if n < PART_LIMIT { n } else { PART_LIMIT }
-}
-
-// bins[i] = src[start + i × stride] >> coarse.
+// bins[i] = src[start + i × stride] >> coarse. By index: a proof knows no element that `iter_mut` wrote.
 fn bins_at(src: &[u16], start: usize, stride: usize, coarse: u32, bins: &mut [u16])
     requires { InPlane src.now start stride (length bins.old) × (coarse < 16) }
     ensures { bins.new ≡ tabulate (length bins.old) (coarse_at src.now start stride coarse) }

@@ -4,51 +4,61 @@ ghost use Rattle.laws.specs.Limits.{plane_limit};
 ghost use Rattle.profile.specs.Steps.{plane_squares};
 ghost use Rattle.profile.specs.Answers.{sigma_answer};
 ghost use Rattle.profile.specs.LowParts.{Copied, LowThen};
+ghost use Rattle.profile.specs.Record.{sigma_record};
 
 use crate::Sigma;
-use crate::lines::part_size;
-use crate::parts::{LowSquares, part_squares};
+use crate::lines::PART_LIMIT;
+use crate::parts::part_squares;
+use frame::{Pair, Refusal};
 
-// A plane, part by part; a part whose samples are not low ends it.
-fn plane_squares(src: &[u16], den: &[u16], depth: u8) -> LowSquares
-    requires { Copied plane_limit depth src.now den.now }
-    ensures { LowThen result.low depth src.now den.now (result.sum ≡ plane_squares (depth - 8) src.now den.now) }
-{
-    let n = src.len();
-    let mut sum = 0;
-    let mut from = 0;
-    while from < n {
-        let to = from + part_size(n - from);
-        let part = part_squares(&src[from..to], &den[from..to], depth);
-        if !part.low {
-            return LowSquares { low: false, sum: 0 };
+impl From<Result<u64, Refusal>> for Sigma {
+    ghost use Rattle.std.specs.Prelude.{◌≡◌};
+    ghost use Rattle.profile.specs.Record.{sigma_record};
+
+    ghost from_gives = { λ answer r. r ≡ sigma_record answer };
+
+    fn from(answer: Result<u64, Refusal>) -> Sigma {
+        match answer {
+            Ok(sigma16) => Sigma {
+                refusal: 0,
+                sigma16,
+            },
+            Err(refusal) => Sigma {
+                refusal: refusal.into(),
+                sigma16: 0,
+            },
         }
-        sum = sum + part.sum;
-        from = to;
     }
-    LowSquares { low: true, sum }
+}
+
+// The sum of a plane's d², part by part; a part whose samples are not low ends it.
+fn plane_squares(plane: Pair<'_>, depth: u8) -> Option<u64>
+    requires { Copied plane_limit depth plane.source.now plane.denoised.now }
+    ensures { LowThen result depth plane.entry.source.now plane.entry.denoised.now (plane_squares (depth - 8) plane.entry.source.now plane.entry.denoised.now) }
+{
+    let n = plane.source.len();
+    let mut sum = 0;
+    for from in (0..n).step_by(PART_LIMIT) {
+        let to = from + PART_LIMIT.min(n - from);
+        let part = Pair {
+            source: &plane.source[from..to],
+            denoised: &plane.denoised[from..to],
+        };
+        sum += part_squares(part, depth)?;
+    }
+    Some(sum)
 }
 
 // round(16 × root(sum of d² / count)), d the noise shifted right by depth − 8; 0 for an empty plane. A lone plane is lent whole, so question 6 is asked part by part, and each sample is read from memory once.
-pub fn plane_sigma16(src: &[u16], den: &[u16], width: usize, height: usize, depth: u8) -> Sigma
-    ensures { result ≡ sigma_answer width height depth src.now den.now }
+pub fn plane_sigma16(
+    plane: Pair<'_>,
+    width: usize,
+    height: usize,
+    depth: u8,
+) -> Result<u64, Refusal>
+    ensures { sigma_record result ≡ sigma_answer width height depth plane.entry.source.now plane.entry.denoised.now }
 {
-    let refusal = frame::pair_numbers(width, height, depth, src.len(), den.len());
-    if refusal != 0 {
-        return Sigma {
-            refusal,
-            sigma16: 0,
-        };
-    }
-    let squares = plane_squares(src, den, depth);
-    if !squares.low {
-        return Sigma {
-            refusal: 6,
-            sigma16: 0,
-        };
-    }
-    Sigma {
-        refusal: 0,
-        sigma16: float::sigma16(squares.sum, src.len() as u64),
-    }
+    frame::ask_pair_numbers(plane, width, height, depth)?;
+    let squares = plane_squares(plane, depth).ok_or(Refusal::SampleAboveDepth)?;
+    Ok(float::sigma16(squares, plane.source.len() as u64))
 }

@@ -1,7 +1,7 @@
 -- The Rust's steps and the specification's text give the same state and the same answer, for every 16-bit state and at most 16 bits: each bit operator is taken to whole numbers. Assumes nothing.
 use Rattle.std.proofs.Common.{◌≡◌, ℕ, ◌+◌, ◌-◌, ◌*◌, ◌/◌, ◌%◌, ◌^◌, ◌<◌, ◌≤◌, ◌∙◌, div-one, arith, shl_exact}
 use native.Mathlib.Nat.{mod-add-mod}
-use lib.Bits.{bit_xor, and_mask, xor_add_and, or_shifted_r}
+use lib.Bits.{bit_and, bit_or, bit_xor, and_mask, xor_add_and, or_shifted_r}
 use Rattle.random.specs.Text as text
 use Rattle.random.specs.Steps as steps
 use Rattle.random.proofs.Moves.{new-lt, moved-lt}
@@ -23,6 +23,14 @@ unfolding steps.shifted text.moved
 shifted-is-moved r h =
     let s : text.new_bit r * 2 ^ 15 % 2 ^ 32 ≡ text.new_bit r * 2 ^ 15 = omega (arith, new-lt r) in
     rw (bits-agree r, s) (or_shifted_r (text.new_bit r) 15 (r / 2 ^ 1) (omega arith))
+
+-- the same in 16 bits, with a shift by the first tap
+pub moved-is : (r : ℕ) → r < 2 ^ 16
+    → bit_or (r / 2) (bit_and (bit_xor (bit_xor (bit_xor (r / 2 ^ 0) (r / 2 ^ 1)) (r / 2 ^ 3)) (r / 2 ^ 12)) 1 * 2 ^ 15 % 2 ^ 16) ≡ text.moved r
+unfolding text.moved
+moved-is r h =
+    let s : text.new_bit r * 2 ^ 15 % 2 ^ 16 ≡ text.new_bit r * 2 ^ 15 = omega (arith, new-lt r) in
+    rw (div-one r, bits-agree r, s) (or_shifted_r (text.new_bit r) 15 (r / 2) (omega arith))
 
 pub states-agree : (r : ℕ) → r < 2 ^ 16 → steps.state r ≡ text.moved r
 unfolding steps.state

@@ -6,7 +6,7 @@ use lib.Pow.{shr_mod}
 use Rattle.random.specs.Text.{moved, answer}
 use Rattle.random.specs.Register.{refused, drawn, step}
 use Rattle.random.specs.declared.register.RandomRegister.{RandomRegister}
-use Rattle.random.specs.declared.register.Draw.TheVariants.{Value}
+use Rattle.std.specs.Prelude.{Ok}
 use Rattle.random.proofs.Moves.{moved-lt}
 
 pub step-refused : (g : RandomRegister) (bits : ℕ) → 16 < bits → step g bits ≡ refused 9 g
@@ -17,7 +17,7 @@ pub step-accepted : (g : RandomRegister) (bits : ℕ) → bits ≤ 16
 step-accepted g bits h = rw (le-leb bits 16 h)
 
 -- "0 bits gives 0 and still steps the state."
-pub step-of-none : (g : RandomRegister) → step g 0 ≡ record { draw = Value 0; register = record { state = moved g.state } }
+pub step-of-none : (g : RandomRegister) → step g 0 ≡ record { draw = Ok 0; register = record { state = moved g.state } }
 unfolding answer
 step-of-none g = rw (mod-one (moved g.state / 2 ^ 16))
 

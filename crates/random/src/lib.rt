@@ -4,5 +4,5 @@
 mod register;
 mod seed;
 
-pub use register::{Draw, RandomRegister, Stepped, draw_from};
+pub use register::{RandomRegister, Stepped, draw_from};
 pub use seed::grain_seed_for;

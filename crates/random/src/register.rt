@@ -1,36 +1,26 @@
 // The random register of 7.18.3.2.
-ghost use Rattle.std.specs.Prelude.{◌≡◌};
-ghost use Rattle.random.specs.Register.{step};
+ghost use Rattle.std.specs.Prelude.{◌≡◌, ◌/◌, ◌^◌, bit_xor, fold};
+ghost use Rattle.frame.specs.Refusal.{numbered};
+ghost use Rattle.random.specs.Register.{step, step_of};
+
+use frame::Refusal;
 
 #[repr(C)]
-#[derive(Clone, Copy)]
+#[derive(Clone, Copy, Debug, PartialEq, Eq)]
 pub struct RandomRegister {
     pub state: u16,
 }
 
-// What a register answers: the number of a refusal, or the bits drawn.
-#[derive(Clone, Copy)]
-pub enum Draw {
-    Refused(u32),
-    Value(u32),
-}
-
 // A draw, with the register after it.
-#[derive(Clone, Copy)]
+#[derive(Clone, Copy, Debug, PartialEq, Eq)]
 pub struct Stepped {
-    pub draw: Draw,
+    pub draw: Result<u32, Refusal>,
     pub register: RandomRegister,
 }
 
 impl RandomRegister {
     // The bits whose xor is the new bit.
-    pub const TAP_A: u32 = 0;
-
-    pub const TAP_B: u32 = 1;
-
-    pub const TAP_C: u32 = 3;
-
-    pub const TAP_D: u32 = 12;
+    pub const TAPS: [u32; 4] = [0, 1, 3, 12];
 
     // The bit where the new bit enters.
     pub const ENTRY: u32 = 15;
@@ -45,47 +35,40 @@ impl RandomRegister {
         Self { state: seed }
     }
 
-    // The top bits asked for of the register after a step: r >> 1, with the taps' xor at bit 15. Refused, the register stays as it was.
-    pub fn stepped(self, bits: u32) -> Stepped
-        ensures { result ≡ step self bits }
+    // The taps' xor, at bit 0.
+    fn tapped(r: u16) -> u16
+        ensures { result ≡ fold (λ bit tap. bit_xor bit (r / 2 ^ tap)) 0 Self.TAPS }
     {
-        let refusal = frame::bits_refusal(bits);
-        if refusal != 0 {
-            return Stepped {
-                draw: Draw::Refused(refusal),
-                register: self,
-            };
-        }
-        let r = self.state as u32;
-        let bit = ((r >> Self::TAP_A)
-            ^ (r >> Self::TAP_B)
-            ^ (r >> Self::TAP_C)
-            ^ (r >> Self::TAP_D))
-            & 1;
-        let moved = (r >> 1) | (bit << Self::ENTRY);
-        let top = (moved >> (Self::WIDTH - bits)) & ((1 << bits) - 1);
-        let state = moved as u16;
-        Stepped {
-            draw: Draw::Value(top),
-            register: RandomRegister { state },
-        }
+        Self::TAPS.iter().fold(0, |bit, tap| bit ^ (r >> tap))
     }
 
-    // `stepped`, in place: the draw, with the register left as it is after the step.
-    pub fn next(&mut self, bits: u32) -> Draw
-        ensures { (result ≡ (step self.old bits).draw) × (self.new ≡ (step self.old bits).register) }
+    // The top bits asked for of the register, which is stepped first. Refused, it stays as it was.
+    pub fn next(&mut self, bits: u32) -> Result<u32, Refusal>
+        ensures draw { numbered result ≡ (step self.old bits).draw }
+        ensures register { self.new ≡ (step self.old bits).register }
     {
-        let s = self.stepped(bits);
-        *self = s.register;
-        s.draw
+        frame::ask_bits(bits)?;
+        let r = self.state;
+        let bit = Self::tapped(r) & 1;
+        self.state = (r >> 1) | (bit << Self::ENTRY);
+        Ok(u32::from(self.state) >> (Self::WIDTH - bits))
+    }
+
+    // `next`, by value: the draw, with the register after it.
+    pub fn stepped(mut self, bits: u32) -> Stepped
+        ensures { step_of result ≡ step self bits }
+    {
+        let draw = self.next(bits);
+        Stepped {
+            draw,
+            register: self,
+        }
     }
 }
 
 // The first draw of the register that starts at the seed, and the register after it.
 pub fn draw_from(seed: u16, bits: u32) -> Stepped
-    ensures { result ≡ step (record { state = seed }) bits }
+    ensures { step_of result ≡ step (record { state = seed }) bits }
 {
-    let mut register = RandomRegister::new(seed);
-    let draw = register.next(bits);
-    Stepped { draw, register }
+    RandomRegister::new(seed).stepped(bits)
 }

@@ -6,7 +6,7 @@ use Rattle.laws.specs.Loop.{loop}
 use Rattle.laws.proofs.Loop.{loop-fixed}
 use Rattle.laws.proofs.Turns.{Turned}
 use Rattle.frame.specs.Calls.{order_refusal}
-use Rattle.frame.proofs.Refusal as refusal
+use Rattle.frame.proofs.FirstNo as refusal
 use Rattle.solve.specs.declared.Solved.{Solved}
 use Rattle.solve.specs.Elimination.{Matrix, Row, going, none, column, eliminated, substituted}
 use Rattle.solve.specs.Answer.{refused, answer_of, solved_of}

@@ -1,4 +1,5 @@
 pub mod Rows
+pub mod Known
 pub mod Column
 pub mod Answer
 pub mod Alike

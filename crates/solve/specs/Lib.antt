@@ -4,3 +4,4 @@ pub mod Answer
 pub mod Words
 -- how the work is divided: the contracts of the parts
 pub mod Rows
+pub mod Parts

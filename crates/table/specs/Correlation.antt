@@ -6,7 +6,9 @@ use Rattle.laws.specs.Table.{tabulate}
 use Rattle.frame.specs.Planes.{samples_of, geometry_of}
 use Rattle.frame.specs.declared.Shape.{Shape}
 use Rattle.frame.specs.declared.view.Component.TheVariants.{Y, CbCr}
-use Rattle.float.specs.Mark.{Mark, inside, held_high, number}
+use Rattle.float.specs.Mark.{number}
+use Rattle.float.specs.declared.quant.Mark.{Mark}
+use Rattle.float.specs.declared.quant.Mark.TheVariants.{Inside, HeldHigh}
 use Rattle.noise.specs.Average.{luma_seen, quarters}
 use Rattle.chroma_correlation.specs.Answer.{corr_answer}
 use Rattle.chroma_correlation.specs.declared.ChromaCorr.{ChromaCorr}
@@ -43,12 +45,12 @@ place luma chroma = record { shape = shape 1 1 8 3; luma-noise = luma ∷ []; ch
 
 -- averages 2 and 8, result 9
 abbrev worked : Figures
-worked = record { averages = pos (4 * 2) ∷ pos (4 * 8) ∷ []; answer = tap (pos 9) inside }
+worked = record { averages = pos (4 * 2) ∷ pos (4 * 8) ∷ []; answer = tap (pos 9) Inside }
 
 abbrev pub cases : List (Case Noises Figures)
 cases =
     row (record { shape = shape 3 1 8 1; luma-noise = 0 ∷ 4 ∷ 8 ∷ []; chroma-noise = 1 ∷ 1 ∷ [] }) worked ∷
     row (record { shape = within 5 1 1 (at 0 0 3 1); luma-noise = 0 ∷ 4 ∷ 8 ∷ 100 ∷ 200 ∷ []; chroma-noise = 1 ∷ 1 ∷ 7 ∷ [] }) worked ∷
     row (record { shape = within 5 1 1 (at 2 0 3 1); luma-noise = 100 ∷ 200 ∷ 0 ∷ 4 ∷ 8 ∷ []; chroma-noise = 7 ∷ 1 ∷ 1 ∷ [] }) worked ∷
-    row (place 1 3) (record { averages = pos 4 ∷ []; answer = tap (pos 127) held_high }) ∷
-    row (place 0 3) (record { averages = pos 0 ∷ []; answer = tap (pos 0) inside }) ∷ []
+    row (place 1 3) (record { averages = pos 4 ∷ []; answer = tap (pos 127) HeldHigh }) ∷
+    row (place 0 3) (record { averages = pos 0 ∷ []; answer = tap (pos 0) Inside }) ∷ []

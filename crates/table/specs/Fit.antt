@@ -5,7 +5,9 @@ use Rattle.table.specs.Questions.{shape, at, within}
 use Rattle.frame.specs.Planes.{samples_of}
 use Rattle.frame.specs.declared.Shape.{Shape}
 use Rattle.frame.specs.declared.view.Component.TheVariants.{Y}
-use Rattle.float.specs.Mark.{Mark, inside, held_high, number}
+use Rattle.float.specs.Mark.{number}
+use Rattle.float.specs.declared.quant.Mark.{Mark}
+use Rattle.float.specs.declared.quant.Mark.TheVariants.{Inside, HeldHigh}
 use Rattle.fit.specs.Answer.{unfit, fit_answer}
 use Rattle.fit.specs.declared.Fit.{Fit}
 
@@ -37,8 +39,8 @@ abbrev pub cases : List (Case Noise Fit)
 cases =
     row (record { shape = shape 2 3 8 0; luma = 1 ∷ 2 ∷ 3 ∷ 4 ∷ 5 ∷ 6 ∷ []; lag = 1 }) (unfit 0) ∷
     row (record { shape = shape 1 1 8 0; luma = 1 ∷ []; lag = 4 }) (unfit 7) ∷
-    row (record { shape = shape 6 2 8 0; luma = 0 ∷ 0 ∷ 0 ∷ 1 ∷ 0 ∷ 0 ∷ replicate 6 1; lag = 1 }) (on_left (pos 64) inside) ∷
-    row (record { shape = shape 6 2 8 0; luma = 0 ∷ 0 ∷ 0 ∷ 1 ∷ 0 ∷ 0 ∷ 1 ∷ 3 ∷ 9 ∷ 27 ∷ 81 ∷ 243 ∷ []; lag = 1 }) (on_left (pos 127) held_high) ∷
-    row (record { shape = within 8 3 0 (at 1 1 6 2); luma = replicate 8 9 ++ (5 ∷ 0 ∷ 0 ∷ 0 ∷ 1 ∷ 0 ∷ 0 ∷ 7 ∷ 8 ∷ replicate 6 1 ++ (6 ∷ [])); lag = 1 }) (on_left (pos 64) inside) ∷
+    row (record { shape = shape 6 2 8 0; luma = 0 ∷ 0 ∷ 0 ∷ 1 ∷ 0 ∷ 0 ∷ replicate 6 1; lag = 1 }) (on_left (pos 64) Inside) ∷
+    row (record { shape = shape 6 2 8 0; luma = 0 ∷ 0 ∷ 0 ∷ 1 ∷ 0 ∷ 0 ∷ 1 ∷ 3 ∷ 9 ∷ 27 ∷ 81 ∷ 243 ∷ []; lag = 1 }) (on_left (pos 127) HeldHigh) ∷
+    row (record { shape = within 8 3 0 (at 1 1 6 2); luma = replicate 8 9 ++ (5 ∷ 0 ∷ 0 ∷ 0 ∷ 1 ∷ 0 ∷ 0 ∷ 7 ∷ 8 ∷ replicate 6 1 ++ (6 ∷ [])); lag = 1 }) (on_left (pos 64) Inside) ∷
     row (record { shape = within 4 3 0 (at 1 0 2 3); luma = replicate 12 1; lag = 1 }) (unfit 0) ∷
     []

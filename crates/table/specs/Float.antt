@@ -5,7 +5,8 @@ use Rattle.std.specs.Float.Ieee.{round, of_bits}
 use Rattle.laws.specs.Constants.{fraction}
 use Rattle.float.specs.Steps.{sigma16_of}
 use Rattle.float.specs.Sigma.{whole_sigma16, sum_of_squares}
-use Rattle.float.specs.Mark.{Mark, inside, held_low, held_high, not_a_number, number}
+use Rattle.float.specs.declared.quant.Mark.{Mark}
+use Rattle.float.specs.declared.quant.Mark.TheVariants.{Inside, HeldLow, HeldHigh, NotANumber}
 use Rattle.float.specs.declared.quant.Quantised.{Quantised}
 use Rattle.table.specs.Cases.{Case, row}
 
@@ -50,22 +51,22 @@ coefficient_cases =
 
 -- a coefficient with its mark
 abbrev pub marked : ℤ → Mark → Quantised
-marked k m = record { coefficient = k; mark = number m }
+marked k m = record { coefficient = k; mark = m }
 
 -- Marks, of a 64th of each: 127.49999 and 127.5, −128.49 and −128.5; 127 and −128; both zeros, NaN, the infinities.
 abbrev pub mark_cases : List (Case Float Quantised)
 mark_cases =
-    row (fraction 12_749_999 (64 * 100_000)) (marked (pos 127) inside) ∷
-    row (fraction 1_275 (64 * 10)) (marked (pos 127) held_high) ∷
-    row (round binary64 true 12_849 (64 * 100)) (marked (neg_ℤ (pos 128)) inside) ∷
-    row (round binary64 true 1_285 (64 * 10)) (marked (neg_ℤ (pos 128)) held_low) ∷
-    row (fraction 127 64) (marked (pos 127) inside) ∷
-    row (round binary64 true 128 64) (marked (neg_ℤ (pos 128)) inside) ∷
-    row (whole 0) (marked (pos 0) inside) ∷
-    row (minus 0) (marked (pos 0) inside) ∷
-    row nan (marked (pos 0) not_a_number) ∷
-    row (inf false) (marked (pos 127) held_high) ∷
-    row (inf true) (marked (neg_ℤ (pos 128)) held_low) ∷
+    row (fraction 12_749_999 (64 * 100_000)) (marked (pos 127) Inside) ∷
+    row (fraction 1_275 (64 * 10)) (marked (pos 127) HeldHigh) ∷
+    row (round binary64 true 12_849 (64 * 100)) (marked (neg_ℤ (pos 128)) Inside) ∷
+    row (round binary64 true 1_285 (64 * 10)) (marked (neg_ℤ (pos 128)) HeldLow) ∷
+    row (fraction 127 64) (marked (pos 127) Inside) ∷
+    row (round binary64 true 128 64) (marked (neg_ℤ (pos 128)) Inside) ∷
+    row (whole 0) (marked (pos 0) Inside) ∷
+    row (minus 0) (marked (pos 0) Inside) ∷
+    row nan (marked (pos 0) NotANumber) ∷
+    row (inf false) (marked (pos 127) HeldHigh) ∷
+    row (inf true) (marked (neg_ℤ (pos 128)) HeldLow) ∷
     []
 
 -- Roots: of 2, of the smallest f64 and of three times that, of the largest, of both zeros, of −1, of NaN and of the infinities.

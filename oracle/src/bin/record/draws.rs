@@ -1,4 +1,4 @@
-//! Numbers that look random, and digests: crates/cases/src/draws.rt, line for line.
+//! Numbers that look random, and digests: crates/cases/src/draws.rt and digest.rt, in Rust.
 
 pub fn next(x: u32) -> u32 {
     let a = x ^ (x << 13);

@@ -1,4 +1,4 @@
-//! The planes of a recorded call: crates/cases/src/planes.rt, in Rust.
+//! The planes of a recorded call: crates/cases/src/planes.rt and sample.rt, in Rust.
 use crate::draws::{next, start};
 
 /// The numbers that a call on planes is made from.

@@ -1,9 +1,8 @@
--- `cases::replay::compare`: each line is a call, at a place that is no earlier than its number, and has one difference at most.
-use Rattle.std.proofs.Common.{length, ◌-◌, ◌≤◌}
+-- `cases::replay::compare`: a line takes a byte of the list, or its end,, and has one difference at most.
+use Rattle.std.proofs.Common.{◌+◌, ◌≤◌, length}
+use Rattle.std.specs.Str.Iter.{split_terminator_left}
 use Rattle.cases.proofs.replay.compare.Given as goal
 
-abbrev pub invariant-loop-at : goal.invariant-loop-at
-invariant-loop-at g l = (l.calls ≤ l.at) × (l.differences ≤ l.calls)
-
-abbrev pub decreases-loop-at : goal.decreases-loop-at
-decreases-loop-at g l = length l.text - l.at
+abbrev pub invariant-loop-line : goal.invariant-loop-line
+invariant-loop-line g l =
+    (l.calls + split_terminator_left l.line-iterator ≤ length l.list + 2) × (l.differences ≤ l.calls)

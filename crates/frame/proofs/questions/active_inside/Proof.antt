@@ -1,6 +1,6 @@
 -- `frame::questions::active_inside` meets its contract: along both directions. Assumes nothing.
 use borrow.Author.Rules.{rules}
-use Rattle.frame.proofs.Refusal.{and_is}
+use Rattle.frame.proofs.FirstNo.{and_is}
 use Rattle.frame.proofs.questions.active_inside.Statement.{statement}
 use Rattle.frame.proofs.questions.active_inside.Tie as tie
 
