@@ -7,7 +7,8 @@ use crate::numbers::Numbers;
 use frame::Refusal;
 use std::fmt;
 
-// A refusal's number, 0 for none, and the rest as one number: 64 bits each, as a line has them.
+// A refusal's number, 0 for none, and the rest as one number: 64 bits each, as a line has them. No enum of refusals, since a line may have
+// any number.
 #[derive(Clone, Copy, PartialEq, Eq)]
 pub struct Outcome {
     pub refusal: u64,
@@ -19,16 +20,6 @@ pub struct Outcome {
 pub struct Answer {
     pub outcome: Outcome,
     pub figure: u64,
-}
-
-// A refusal's number, 0 for none.
-pub fn number_of<T>(outcome: &Result<T, Refusal>) -> u32
-    ensures { result ≡ number_of outcome.now }
-{
-    match outcome {
-        Ok(_) => 0,
-        Err(refusal) => u32::from(*refusal),
-    }
 }
 
 impl Outcome {
@@ -58,7 +49,7 @@ impl Answer {
     pub fn of<T: Word>(outcome: Result<T, Refusal>) -> Self
         ensures { result.outcome.refusal ≡ number_of outcome }
     {
-        let refusal = number_of(&outcome);
+        let refusal = frame::number_of(&outcome);
         Answer::new(refusal, outcome.map_or(0, |value| value.word()))
     }
 

@@ -1,4 +1,4 @@
-// What each call answers to the numbers of a line.
+// What each call answers to the numbers of a line, which each reads in its own way: no switch of steps, but the list of the calls.
 use crate::answer::Answer;
 use crate::call::Call;
 use crate::case::Case;

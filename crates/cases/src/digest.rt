@@ -25,6 +25,7 @@ impl Word for u64 {
 }
 
 impl Word for usize {
+    // The library has no `From` here.
     fn word(self) -> u64 {
         self as u64
     }

@@ -12,7 +12,7 @@ pub enum Fault {
 }
 
 impl Fault {
-    // 8, 16 or 24 and the plane; with any other number nothing is wrong.
+    // 8, 16 or 24 and the plane. No `TryFrom`: with any other number nothing is wrong, and it is no error.
     pub fn numbered(number: u64) -> Option<Fault>
         ensures { IsSome result
             ↔ ((1 ≤ number / 8) × (number / 8 ≤ 3) × (1 ≤ number % 8) × (number % 8 ≤ 6)) }

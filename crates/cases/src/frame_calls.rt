@@ -1,43 +1,37 @@
 // What the calls on a frame answer.
-use crate::answer::{Answer, number_of};
+use crate::answer::Answer;
 use crate::case::Case;
 use crate::digest::Digest;
-use crate::plane::Size;
+use crate::plane::{Layout, PairNumber, Plane, Size};
 use chroma_correlation::ChromaCorr;
 use denoise::PlanesMut;
 use fit::Fit;
-use frame::Planes;
 use profile::{ChromaProfile, LumaProfile, NoiseEstimate};
 use std::alloc::{AllocError, Global};
 
 // The destinations as a digest, after a refusal too.
 pub fn denoise_frame(alloc: Global, case: &Case) -> Result<Answer, AllocError> {
-    let mut frame = case.frame(alloc)?;
-    case.begin(Size::Luma, frame.y.denoised.as_mut_slice());
-    case.begin(Size::Chroma, frame.cb.denoised.as_mut_slice());
-    case.begin(Size::Chroma, frame.cr.denoised.as_mut_slice());
-    let source = Planes {
-        y: frame.y.source.as_slice(),
-        cb: frame.cb.source.as_slice(),
-        cr: frame.cr.source.as_slice(),
-    };
+    let planes = case.planes(alloc, Layout::Frame)?;
+    let mut y = case.copy(alloc, Plane::Denoised(PairNumber::First), Size::Luma)?;
+    let mut cb = case.copy(alloc, Plane::Denoised(PairNumber::Second), Size::Chroma)?;
+    let mut cr = case.copy(alloc, Plane::Denoised(PairNumber::Third), Size::Chroma)?;
     let into = PlanesMut {
-        y: frame.y.denoised.as_mut_slice(),
-        cb: frame.cb.denoised.as_mut_slice(),
-        cr: frame.cr.denoised.as_mut_slice(),
+        y: y.as_mut_slice(),
+        cb: cb.as_mut_slice(),
+        cr: cr.as_mut_slice(),
     };
-    let outcome = denoise::denoise_frame(case.shape(), &source, into);
+    let outcome = denoise::denoise_frame(case.shape(), &planes.source(), into);
     let digest = Digest::default()
-        .with_all(frame.y.denoised.as_slice())
-        .with_all(frame.cb.denoised.as_slice())
-        .with_all(frame.cr.denoised.as_slice());
-    Ok(Answer::new(number_of(&outcome), digest.finish()))
+        .with_all(y.as_slice())
+        .with_all(cb.as_slice())
+        .with_all(cr.as_slice());
+    Ok(Answer::new(frame::number_of(&outcome), digest.finish()))
 }
 
 // Every sigma16 of a profile as a digest: of each plane, then of its bins.
 pub fn noise_estimate(alloc: Global, case: &Case) -> Result<Answer, AllocError> {
-    let frame = case.frame(alloc)?;
-    let estimate = NoiseEstimate::from(profile::noise_estimate(case.shape(), &frame.lent()));
+    let planes = case.planes(alloc, Layout::Frame)?;
+    let estimate = NoiseEstimate::from(profile::noise_estimate(case.shape(), &planes.frame_pair()));
     let luma = estimate.luma;
     let cb = estimate.cb;
     let cr = estimate.cr;
@@ -73,8 +67,8 @@ fn bin_of_one(bin: usize, count: u64) -> u64 {
 
 // Both coefficients and both marks in a digest.
 pub fn fit_chroma_corr(alloc: Global, case: &Case) -> Result<Answer, AllocError> {
-    let frame = case.frame(alloc)?;
-    let lent = frame.lent();
+    let planes = case.planes(alloc, Layout::Frame)?;
+    let lent = planes.frame_pair();
     let correlation = ChromaCorr::from(chroma_correlation::fit_chroma_corr(case.shape(), &lent));
     let digest = Digest::default()
         .with(correlation.cb)
@@ -86,9 +80,9 @@ pub fn fit_chroma_corr(alloc: Global, case: &Case) -> Result<Answer, AllocError>
 
 // Whether there is a fit, the count, the coefficients and their marks as a digest; the figure is whether there is one.
 pub fn fit_ar_lag(alloc: Global, case: &Case) -> Result<Answer, AllocError> {
-    let frame = case.frame(alloc)?;
+    let planes = case.planes(alloc, Layout::Frame)?;
     let lag = case.argument as usize;
-    let fit = Fit::from(fit::fit_ar_lag(case.shape(), &frame.lent(), lag));
+    let fit = Fit::from(fit::fit_ar_lag(case.shape(), &planes.frame_pair(), lag));
     let digest = Digest::default()
         .with(fit.found)
         .with(fit.count)

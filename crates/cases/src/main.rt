@@ -4,6 +4,7 @@
 
 mod answer;
 mod answers;
+mod bytes;
 mod call;
 mod case;
 mod digest;

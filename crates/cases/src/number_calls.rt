@@ -1,5 +1,5 @@
 // What the calls on numbers answer.
-use crate::answer::{Answer, number_of};
+use crate::answer::Answer;
 use crate::digest::Digest;
 use crate::systems::System;
 use positions::Positions;
@@ -46,5 +46,5 @@ pub fn random_register(state: u16, bits: u32) -> Answer {
     let stepped = random::draw_from(state, bits);
     let state = u64::from(stepped.register.state);
     let bits = u64::from(stepped.draw.unwrap_or(0));
-    Answer::new(number_of(&stepped.draw), bits << 16 | state)
+    Answer::new(frame::number_of(&stepped.draw), bits << 16 | state)
 }

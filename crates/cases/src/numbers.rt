@@ -1,7 +1,9 @@
 // The whole numbers of a line, with spaces between.
 ghost use Rattle.std.specs.Prelude.{◌≡◌, ◌+◌, ◌*◌, ◌%◌, ◌^◌, fold};
 
-// A number's low bits, as many as a type has.
+use crate::bytes::split_once;
+
+// A number's low bits, as many as a type has: `as` is for numbers that fit, and the library has no conversion that cuts.
 pub trait Low: Copy {
     fn low(number: u64) -> Self;
 }
@@ -36,27 +38,26 @@ impl Low for usize {
     }
 }
 
-// Any text writes a number: each byte is a digit, by its remainder of 48, and the number has 64 bits.
-fn written(word: &str) -> u64
+// Any bytes write a number: each is a digit, by its remainder of 48, and the number has 64 bits.
+fn written(word: &[u8]) -> u64
     ensures { result ≡ fold (λ number byte. (10 * number + byte % 48) % 2 ^ 64) 0 word.now }
 {
-    word.bytes().fold(0, |number: u64, byte| {
+    word.iter().fold(0, |number: u64, byte| {
         number.wrapping_mul(10).wrapping_add(u64::from(byte % 48))
     })
 }
 
 #[derive(Clone, Copy)]
-pub struct Numbers<'a>(&'a str);
+pub struct Numbers<'a>(&'a [u8]);
 
 impl<'a> Numbers<'a> {
-    pub fn of(line: &'a str) -> Self {
+    pub fn of(line: &'a [u8]) -> Self {
         Numbers(line)
     }
 
     // The next one; 0 past the last.
     pub fn read<T: Low>(&mut self) -> T {
-        let line = self.0;
-        let (word, rest) = line.split_once(' ').unwrap_or((line, ""));
+        let (word, rest) = split_once(self.0, b' ');
         self.0 = rest;
         T::low(written(word))
     }

@@ -1,56 +1,65 @@
 // The planes of a recorded call, made from its numbers; the recorder makes the same ones.
-ghost use Rattle.std.specs.Prelude.{◌≡◌, ◌≢◌, ◌^◌, ◌<◌, ◌≤◌, IfOk, IsNone, vec_len};
-ghost use Rattle.cases.specs.Planes.{IsDepth, IsWithinOne, samples_of, room_of};
+ghost use Rattle.std.specs.Prelude.{◌≡◌, ◌≢◌, ◌^◌, ◌≤◌, IfOk, IsNone, length, vec_len};
+ghost use Rattle.cases.specs.Planes.{IsDepth, IsWithinOne, samples_of, room_of, pair_of, size_of};
 
 use crate::case::Case;
 use crate::draws::Draws;
 use crate::fault::Fault;
 use crate::kind::Level;
-use crate::plane::{Pair, Plane, Size};
+use crate::plane::{Layout, PairNumber, Plane, Size};
 use crate::sample::top_of;
-use frame::Planes;
 use std::alloc::{AllocError, Global};
 
-// The most samples that are lent of a plane.
+// Room for the largest recorded plane, and a sample more.
 const ROOM: usize = 8256;
 
+// All planes of a call in a row, each with a room of its own. Samples that are more than a room holds go on into the rooms behind, until
+// the planes of those are written; more than are left to the end of the row, and the plane isn't written.
 #[derive(Drop)]
-pub struct PlanePair {
-    pub source: Vec<u16>,
-    pub denoised: Vec<u16>,
+pub struct Planes {
+    case: Case,
+    layout: Layout,
+    row: Vec<u16>,
+    ghost whole: { vec_len row ≡ 49536 },
 }
 
-// A frame and its denoised copy.
-#[derive(Drop)]
-pub struct FramePair {
-    pub y: PlanePair,
-    pub cb: PlanePair,
-    pub cr: PlanePair,
-}
-
-impl PlanePair {
-    pub fn lent(&self) -> frame::Pair<'_> {
+impl Planes {
+    pub fn pair(&self, pair: PairNumber) -> frame::Pair<'_> {
         frame::Pair {
-            source: self.source.as_slice(),
-            denoised: self.denoised.as_slice(),
+            source: self.plane(Plane::Source(pair)),
+            denoised: self.plane(Plane::Denoised(pair)),
         }
     }
-}
 
-impl FramePair {
-    pub fn lent(&self) -> frame::FramePair<'_> {
+    pub fn source(&self) -> frame::Planes<'_> {
+        frame::Planes {
+            y: self.plane(Plane::Source(PairNumber::First)),
+            cb: self.plane(Plane::Source(PairNumber::Second)),
+            cr: self.plane(Plane::Source(PairNumber::Third)),
+        }
+    }
+
+    // The source, and its denoised copy.
+    pub fn frame_pair(&self) -> frame::FramePair<'_> {
         frame::FramePair {
-            source: Planes {
-                y: self.y.source.as_slice(),
-                cb: self.cb.source.as_slice(),
-                cr: self.cr.source.as_slice(),
-            },
-            denoised: Planes {
-                y: self.y.denoised.as_slice(),
-                cb: self.cb.denoised.as_slice(),
-                cr: self.cr.denoised.as_slice(),
+            source: self.source(),
+            denoised: frame::Planes {
+                y: self.plane(Plane::Denoised(PairNumber::First)),
+                cb: self.plane(Plane::Denoised(PairNumber::Second)),
+                cr: self.plane(Plane::Denoised(PairNumber::Third)),
             },
         }
+    }
+
+    // What is lent of a plane.
+    fn plane(&self, plane: Plane) -> &[u16]
+        ensures sound { IsNone self.now.case.fault → length result.now ≡ room_of self.now.case (size_of self.now.layout (pair_of plane)) }
+        ensures near { IsWithinOne (room_of self.now.case (size_of self.now.layout (pair_of plane))) (length result.now) }
+        ensures room { length result.now ≤ 8256 }
+    {
+        let start = plane.place() * ROOM;
+        let count = self.case.lent(plane, self.layout.size(plane.pair()));
+        &self.row[start..start + count]
     }
 }
 
@@ -62,47 +71,51 @@ fn above_top(depth: u8) -> u16
 }
 
 impl Case {
-    pub fn frame(&self, alloc: Global) -> Result<FramePair, AllocError> {
-        Ok(FramePair {
-            y: self.pair(alloc, Pair::First, Size::Luma)?,
-            cb: self.pair(alloc, Pair::Second, Size::Chroma)?,
-            cr: self.pair(alloc, Pair::Third, Size::Chroma)?,
+    pub fn planes(&self, alloc: Global, layout: Layout) -> Result<Planes, AllocError> {
+        let mut row = vec![in alloc; 0; Plane::ALL.len() * ROOM]?;
+        for plane in Plane::ALL {
+            self.write(
+                plane,
+                layout.size(plane.pair()),
+                &mut row[plane.place() * ROOM..],
+            );
+        }
+        Ok(Planes {
+            case: *self,
+            layout,
+            row,
         })
     }
 
-    pub fn pair(&self, alloc: Global, pair: Pair, size: Size) -> Result<PlanePair, AllocError> {
-        Ok(PlanePair {
-            source: self.plane(alloc, Plane::Source(pair), size)?,
-            denoised: self.plane(alloc, Plane::Denoised(pair), size)?,
-        })
-    }
-
-    // The samples of a plane that are lent; the middle one is too high where the fault asks for it.
-    fn plane(&self, alloc: Global, plane: Plane, size: Size) -> Result<Vec<u16>, AllocError>
+    // What is lent of a plane by itself, for a call to write over. Plane and size stay apart: faults, draws and noises ask the plane alone, `samples` and `columns` the size alone, so that a struct of both would only be taken apart.
+    pub fn copy(&self, alloc: Global, plane: Plane, size: Size) -> Result<Vec<u16>, AllocError>
         ensures sound { IsNone self.now.fault → IfOk result (λ samples. vec_len samples ≡ room_of self.now size) }
         ensures near { IfOk result (λ samples. IsWithinOne (room_of self.now size) (vec_len samples)) }
         ensures room { IfOk result (λ samples. vec_len samples ≤ 8256) }
     {
-        let middle = self.samples(size) / 2;
+        let mut samples = vec![in alloc; 0; ROOM]?;
+        self.write(plane, size, samples.as_mut_slice());
+        samples.truncate(self.lent(plane, size));
+        Ok(samples)
+    }
+
+    // Writes the samples of a plane, and one more, where there is room for them; the middle one is too high where the fault asks for it.
+    fn write(&self, plane: Plane, size: Size, room: &mut [u16]) {
+        let samples = self.samples(size);
+        let columns = self.columns(size);
         let is_too_high = self.fault == Some(Fault::TooHigh(plane));
         let common = Draws::new(self.seed, 0);
         let own = Draws::new(self.seed, plane.pair() as u32);
-        (0..self.lent(plane, size))
-            .zip(common.zip(own))
-            .map(|(i, (common, own))| if is_too_high && i == middle {
-                above_top(self.depth)
-            } else {
-                self.sample(plane, self.column(size, i), common, own)
-            })
-            .collect(alloc)
-    }
-
-    // A copy that is written begins as zeros where it leaves none of its room.
-    pub fn begin(&self, size: Size, copy: &mut [u16])
-        ensures { samples_of self.now size < 8256 → copy.new ≡ copy.old }
-    {
-        if self.samples(size) >= ROOM {
-            copy.fill(0);
+        if samples < room.len() {
+            let draws = common.zip(own);
+            for (sample, (i, (common, own))) in room[..=samples].iter_mut().zip((0..).zip(draws)) {
+                *sample = if is_too_high && i == samples / 2 {
+                    above_top(self.depth)
+                } else {
+                    let column = i.checked_rem(columns).unwrap_or(0);
+                    self.sample(plane, column as u64, common, own)
+                };
+            }
         }
     }
 
@@ -133,13 +146,12 @@ impl Case {
         }
     }
 
-    // The column of the sample at a place.
-    fn column(&self, size: Size, i: usize) -> u64 {
-        let columns = match (self.kind.level, size, self.format) {
-            (Level::FirstColumns, _, _) => return i as u64,
+    // The columns of a plane.
+    fn columns(&self, size: Size) -> usize {
+        match (self.kind.level, size, self.format) {
+            (Level::FirstColumns, _, _) => ROOM,
             (_, Size::Chroma, 1 | 2) => self.width.div_ceil(2),
             _ => self.width,
-        };
-        i.checked_rem(columns).unwrap_or(0) as u64
+        }
     }
 }

@@ -1,7 +1,6 @@
 // "a reader record of rows, columns and the lent u16 samples": a read of a plane, held at the edges as `PlaneBuffer::get` holds it.
 ghost use Rattle.std.specs.Prelude.{◌≡◌, ◌/◌, ◌%◌, pos, negsuc};
 
-use crate::answer::number_of;
 use crate::numbers::Numbers;
 use frame::Refusal;
 
@@ -10,7 +9,7 @@ fn figure_of(read: Result<Option<u16>, Refusal>) -> u64 {
     match read {
         Ok(Some(sample)) => u64::from(sample),
         Ok(None) => 1000,
-        Err(_) => 2000 + u64::from(number_of(&read)),
+        Err(refusal) => 2000 + u64::from(u32::from(refusal)),
     }
 }
 

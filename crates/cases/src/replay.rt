@@ -3,6 +3,7 @@ ghost use Rattle.std.specs.Prelude.{◌≡◌, ◌↔◌, ◌≤◌, IfOk};
 
 use crate::answer::Outcome;
 use crate::answers::answer;
+use crate::bytes::Lines;
 use crate::call::Call;
 use crate::numbers::Numbers;
 use anyhow::Context;
@@ -31,12 +32,12 @@ fn difference(answer: Outcome, recorded: Outcome) -> usize
     usize::from(answer != recorded)
 }
 
-// How many differences a line has: where its answer is another than the recorded one, both are written.
+// How many differences a line has: where its answer is another than the recorded one, both are written. (No fact joins the handle and the call.)
 fn replay_line<R: Print + AllocGlobal>(
     rt: &R,
     call: Call,
     number: usize,
-    line: &str,
+    line: &[u8],
 ) -> anyhow::Result<usize>
     ensures { IfOk result (λ n. n ≤ 1) }
 {
@@ -52,10 +53,10 @@ fn replay_line<R: Print + AllocGlobal>(
 }
 
 // Every line of a list.
-fn compare<R: Print + AllocGlobal>(rt: &R, call: Call, list: &str) -> anyhow::Result<Counts> {
+fn compare<R: Print + AllocGlobal>(rt: &R, call: Call, list: &[u8]) -> anyhow::Result<Counts> {
     let mut calls = 0;
     let mut differences = 0;
-    for line in list.split_terminator('\n') {
+    for line in Lines::of(list) {
         calls += 1;
         differences += replay_line(rt, call, calls, line)?;
     }
@@ -64,8 +65,8 @@ fn compare<R: Print + AllocGlobal>(rt: &R, call: Call, list: &str) -> anyhow::Re
 
 // A list is a file of the call's name. The report ends at one that can't be read.
 pub fn replay<R: Files + Print + AllocGlobal>(rt: &R, call: Call) -> anyhow::Result<()> {
-    let list = fs::read_to_string(rt, call.name()).context(format_args!("reading {call}"))?;
-    let counts = compare(rt, call, list.as_str())?;
+    let list = fs::read(rt, call.name()).context(format_args!("reading {call}"))?;
+    let counts = compare(rt, call, list.as_slice())?;
     println!(rt; "{call}: {counts}")?;
     Ok(())
 }

@@ -4,7 +4,7 @@ ghost use Rattle.cases.specs.Planes.{IsDepth};
 
 use crate::case::Case;
 use crate::kind::{Level, Noise};
-use crate::plane::{Pair, Plane};
+use crate::plane::{PairNumber, Plane};
 
 // The highest sample of a depth; all u16 where a call takes no depth, recorded as 16.
 pub fn top_of(depth: u8) -> u16
@@ -19,7 +19,7 @@ pub fn top_of(depth: u8) -> u16
     }
 }
 
-// A level, up by a size or down by it, held to 0 and top.
+// A level, up by a size or down by it, held to 0 and top. `rises` is the sign of the noise: a fact about the sample and no step.
 fn moved(level: u16, rises: bool, size: u16, top: u16) -> u16
     ensures held { level ≤ top → result ≤ top }
     ensures risen { IsTrue rises → level ≤ result }
@@ -50,8 +50,8 @@ impl Case {
     }
 
     // Of 16 noises, as many as the share are those of the first pair.
-    fn draw(&self, pair: Pair, common: u32, own: u32) -> u32 {
-        if pair == Pair::First || u64::from(own % 16) < self.share {
+    fn draw(&self, pair: PairNumber, common: u32, own: u32) -> u32 {
+        if pair == PairNumber::First || u64::from(own % 16) < self.share {
             common
         } else {
             own
@@ -59,16 +59,16 @@ impl Case {
     }
 
     // Whether the sign of a column is positive.
-    fn sign(&self, pair: Pair, column: u64) -> bool {
+    fn sign(&self, pair: PairNumber, column: u64) -> bool {
         let signs = match pair {
-            Pair::First => self.share,
-            Pair::Second | Pair::Third => u64::from(self.seed),
+            PairNumber::First => self.share,
+            PairNumber::Second | PairNumber::Third => u64::from(self.seed),
         };
         (signs >> (column % 64)) % 2 == 1
     }
 
     // Whether a noise is positive.
-    fn rises(&self, pair: Pair, column: u64, draw: u32) -> bool {
+    fn rises(&self, pair: PairNumber, column: u64, draw: u32) -> bool {
         match self.kind.noise {
             Noise::Ones | Noise::OneExtreme | Noise::Ramp | Noise::FirstColumns => true,
             Noise::Stripes | Noise::BrokenStripes => column % 2 == 0,
@@ -86,7 +86,7 @@ impl Case {
     }
 
     // The size of a noise.
-    fn noise_size(&self, pair: Pair, top: u16, column: u64, draw: u32) -> u16 {
+    fn noise_size(&self, pair: PairNumber, top: u16, column: u64, draw: u32) -> u16 {
         let drawn = (draw / 256 % 65536) as u16;
         let is_rare = draw / 256 % 64 == 0;
         let size = match self.kind.noise {
@@ -102,7 +102,7 @@ impl Case {
             Noise::Ramp => (column % 8) as u16,
             Noise::FirstColumns => u16::from(column < self.share),
         };
-        if pair == Pair::First && self.kind.level == Level::LowLessNoise {
+        if pair == PairNumber::First && self.kind.level == Level::LowLessNoise {
             size / 8
         } else {
             size

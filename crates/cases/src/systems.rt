@@ -78,15 +78,16 @@ impl System {
     }
 
     pub fn matrix(self, seed: u32) -> [[f64; 25]; 25] {
-        let mut rows = [[0.0; 25]; 25];
-        for (row, r) in rows.iter_mut().zip(0..) {
-            *row = self.row(r, seed);
-        }
-        rows
+        std::array::from_fn(
+            |r: usize| -> [f64; 25]
+                requires { r < 25 }
+            { self.row(r as u32, seed) },
+        )
     }
 }
 
-// Any number past the last is a system of whole numbers.
+// Any number past the last is a system of whole numbers. As `Call` and `Level` are numbered, by the library's methods: a function for all
+// three would be no more than a name for them.
 impl From<u64> for System {
     ghost from_gives = { λ number system.
         (number < 11 → slice_get ALL number ≡ Some system) × (11 ≤ number → system ≡ Whole) };

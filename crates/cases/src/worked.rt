@@ -9,6 +9,7 @@ ghost use Rattle.cases.specs.declared.worked.Question.TheVariants.{Read};
 
 use crate::answer::{Answer, Outcome};
 use crate::answers::answer;
+use crate::bytes::split_once;
 use crate::call::Call;
 use crate::numbers::Numbers;
 use crate::reads::read;
@@ -82,10 +83,11 @@ fn worked(alloc: Global, numbers: &mut Numbers<'_>) -> Result<u64, AllocError> {
     })
 }
 
-// A worked case's line: its name, a colon and its numbers; one with no colon is a name.
-pub fn show<R: Print + AllocGlobal>(rt: &R, line: &str) -> anyhow::Result<()> {
-    let (name, numbers) = line.split_once(':').unwrap_or((line, ""));
+// A worked case's line: its name, a colon and its numbers; one with no colon is a name. A name is written as its bytes are.
+pub fn show<R: Print + AllocGlobal>(rt: &R, line: &[u8]) -> anyhow::Result<()> {
+    let (name, numbers) = split_once(line, b':');
     let figure = worked(rt.alloc(), &mut Numbers::of(numbers))?;
-    println!(rt; "{name}: {figure}")?;
+    rt.write_all(name)?;
+    println!(rt; ": {figure}")?;
     Ok(())
 }

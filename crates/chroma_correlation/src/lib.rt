@@ -12,7 +12,8 @@ ghost use Rattle.chroma_correlation.specs.Record.{record_of};
 
 use float::{Mark, Quantised, UNQUANTISED};
 use frame::{FramePair, Refusal, Shape};
-use normal::ShownFrame;
+use normal::{ShownFrame, WindowedFrame};
+use positions::Lag;
 
 // The luma tap of each chroma plane, at lag 0, with its mark.
 #[derive(Clone, Copy)]
@@ -21,7 +22,7 @@ pub struct Correlations {
     pub cr: Quantised,
 }
 
-// The answer as C has it: a refusal's number; the coefficients, and their marks.
+// The answer as C has it: a refusal's number; the coefficients, and their marks. Numbers, since an exported record holds no enum.
 #[repr(C)]
 #[derive(Clone, Copy)]
 pub struct ChromaCorr {
@@ -75,7 +76,11 @@ fn correlate(frame: &ShownFrame<'_>) -> Correlations
 {
     let mut cbtaps = [0; 1];
     let mut crtaps = [0; 1];
-    let squares = normal::tap_sums(frame, 0, &mut cbtaps, &mut crtaps);
+    let windowed = WindowedFrame {
+        shown: *frame,
+        lag: Lag { reach: 0 },
+    };
+    let squares = normal::tap_sums(&windowed, &mut cbtaps, &mut crtaps);
     Correlations {
         cb: tap(cbtaps[0], squares),
         cr: tap(crtaps[0], squares),

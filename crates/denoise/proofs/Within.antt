@@ -3,7 +3,7 @@
 use mathlib.Core.Path.{◌≡◌, refl}
 use mathlib.Core.List.{List, [], ◌∷◌}
 use Prim.Native.Nat.{ℕ, ◌+◌, ◌*◌, ◌/◌, ◌≤◌}
-use native.Mathlib.Nat.{add-mul, mul-le-mul, le_refl}
+use native.Mathlib.Nat.{add-mul, mul-le-mul_left, add-le-add, le_refl}
 use native.Mathlib.Omega.{arith}
 use lib.ListN.{length, get_or}
 use Rattle.denoise.specs.Denoise.{nine, weights, weighed, smoothed}
@@ -32,19 +32,16 @@ abbrev total : List ℕ → ℕ
 total [] = 0
 total (w ∷ ws) = w + total ws
 
-both : {a b c d : ℕ} → a ≤ c → b ≤ d → a + b ≤ c + d
-both p q = omega arith
-
 weighed-le : (m : ℕ) (ws xs : List ℕ) → AllLe m xs → weighed ws xs ≤ total ws * m
 weighed-le m [] xs h = omega arith
 weighed-le m (w ∷ ws) [] h = omega arith
-weighed-le m (w ∷ ws) (x ∷ xs) h = rw (add-mul w (total ws) m) (both (mul-le-mul (le_refl w) h.0) (weighed-le m ws xs h.1))
+weighed-le m (w ∷ ws) (x ∷ xs) h = rw (add-mul w (total ws) m) (add-le-add (mul-le-mul_left w h.0) (weighed-le m ws xs h.1))
 
 weighed-ge : (m : ℕ) (ws xs : List ℕ) → length ws ≡ length xs → AllGe m xs → total ws * m ≤ weighed ws xs
 weighed-ge m [] xs e h = omega arith
 weighed-ge m (w ∷ ws) [] e h = absurd (omega arith)
 weighed-ge m (w ∷ ws) (x ∷ xs) e h =
-    rw (add-mul w (total ws) m) (both (mul-le-mul (le_refl w) h.0) (weighed-ge m ws xs (omega arith) h.1))
+    rw (add-mul w (total ws) m) (add-le-add (mul-le-mul_left w h.0) (weighed-ge m ws xs (omega arith) h.1))
 
 mean-within : (x : ℕ) (xs : List ℕ) → length weights ≡ length (x ∷ xs) → Within (x ∷ xs) ((weighed weights (x ∷ xs) + 8) / 16)
 mean-within x xs e =

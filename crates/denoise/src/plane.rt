@@ -60,7 +60,7 @@ impl<'a> Plane<'a> {
         requires { (0 < self.now.width) × (length line.old ≡ self.now.width + 2) × (length dst.old ≡ self.now.width * self.now.height) }
         ensures { dst.new ≡ denoised self.now.samples.now self.now.width self.now.height }
     {
-        // By index: after `chunks_exact_mut` a proof knows no sample that was written.
+        // By index. Tried: `dst.chunks_exact_mut(self.width).enumerate()`, after which a proof knows no sample that was written.
         for row in 0..self.height {
             let a = row * self.width;
             let e = a + self.width;
@@ -83,5 +83,5 @@ impl<'a> Plane<'a> {
     }
 }
 
-// A line for the widest row, with one column more at each end.
+// A line for the widest row, with one column more at each end; there is no heap to take one of a row's own width from.
 const LINE: usize = SIDE_LIMIT + 2;

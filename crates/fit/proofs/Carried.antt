@@ -1,6 +1,7 @@
 -- "The luma fit, the chroma fit .. carry this for each coefficient": where there is a fit, and of chroma where there is a solution, coefficient i and mark i are those of value i of the solution. Assumes nothing.
 use Rattle.std.proofs.Common.{◌≡◌, ℕ, ◌*◌, ◌<◌, ◌≤◌, Bool, true, false, cond, List, get_or, sym, refl, ap, ◌∙◌, true≢false, lt_of_lt_of_le, arith, leb-false, leb-true}
 use lib.Ieee.{le}
+use mathlib.Core.Bool.{not-eq-not}
 use Rattle.laws.specs.Scaled.{plus_zero}
 use Rattle.float.specs.Reading.{Reading, coefficients, marks}
 use Rattle.frame.specs.Calls.{fit_refusal}
@@ -22,17 +23,8 @@ use Rattle.fit.proofs.Answers.{accepted-is}
 use Rattle.fit.proofs.Energy.{flat-still}
 use Rattle.fit.proofs.NoFit.{limited, bounded, no-fit-if}
 use Rattle.fit.proofs.Places.{quantised-at, first-at}
-use Rattle.positions.proofs.Counts.{neighbours-le}
 use Rattle.fit.proofs.LumaSteps as luma-steps
 use Rattle.fit.proofs.ChromaSteps as chroma-steps
-
-not-true : (b : Bool) → (b ≡ true → ⊥) → b ≡ false
-not-true true f = absurd (f refl)
-not-true false f = refl
-
-not-false : (b : Bool) → (b ≡ false → ⊥) → b ≡ true
-not-false true f = refl
-not-false false f = absurd (f refl)
 
 picked : (b : Bool) (f : Fit) → (cond b (unfit 0) f).found ≡ true → cond b (unfit 0) f ≡ f
 picked true f e = absurd (true≢false (sym e))
@@ -60,12 +52,12 @@ module _ (s : Shape) (y cb cr y-denoised cb-denoised cr-denoised : List ℕ) (la
   unfolding coefficients_of
   luma-solved R =
       let p = luma.plane in
-      let wide = leb-false p.width (2 * lag) (not-true _ (λ t. some_fit (narrow (leb-true p.width (2 * lag) t)))) in
-      let high = leb-false p.height lag (not-true _ (λ t. some_fit (short (leb-true p.height lag t)))) in
+      let wide = leb-false p.width (2 * lag) (not-eq-not.0 (λ t. some_fit (narrow (leb-true p.width (2 * lag) t)))) in
+      let high = leb-false p.height lag (not-eq-not.0 (λ t. some_fit (short (leb-true p.height lag t)))) in
       let S = limited s y cb cr y-denoised cb-denoised cr-denoised lag passed in
       let B = bounded s y cb cr y-denoised cb-denoised cr-denoised lag passed wide high in
-      let d = not-true (le (energy_f p lag) plus_zero) (λ t. some_fit (still (flat-still p lag S B t))) in
-      let e = not-false (luma_solved p lag).found (λ t. some_fit (unsolved t)) in
+      let d : le (energy_f p lag) plus_zero ≡ false = not-eq-not.0 (λ t. some_fit (still (flat-still p lag S B t))) in
+      let e : (luma_solved p lag).found ≡ true = not-eq-not.0 (λ t. some_fit (unsolved t)) in
       luma-steps.tested R p lag (λ z. some_fit (lag_zero z)) (luma-steps.not-small p lag wide high) _ refl d ∙ rw e
 
   luma-at : {A : Type 0} (R : Reading A) (i : ℕ) → i < neighbours lag → get_or (luma_first R luma lag) i R.unquantised ≡ R.of (value (luma_solved luma.plane lag).solution.values i)
@@ -89,9 +81,9 @@ module _ (s : Shape) (y cb cr y-denoised cb-denoised cr-denoised : List ℕ) (la
     chroma-solved : {A : Type 0} (R : Reading A) → chroma_fit R luma plane lag ≡ quantised R r.solution.values
     unfolding coefficients_of
     chroma-solved R =
-        let wide = leb-false plane.width (2 * lag) (not-true _ (λ t. some (narrow (leb-true plane.width (2 * lag) t)))) in
-        let high = leb-false plane.height lag (not-true _ (λ t. some (short (leb-true plane.height lag t)))) in
-        let e = not-false r.found (λ t. some (unsolved t)) in
+        let wide = leb-false plane.width (2 * lag) (not-eq-not.0 (λ t. some (narrow (leb-true plane.width (2 * lag) t)))) in
+        let high = leb-false plane.height lag (not-eq-not.0 (λ t. some (short (leb-true plane.height lag t)))) in
+        let e : r.found ≡ true = not-eq-not.0 (λ t. some (unsolved t)) in
         chroma-steps.tested R luma plane lag (viewed-length (geometry_of s).chroma source) wide high ∙ rw e
 
     each : {A : Type 0} (R : Reading A) (i : ℕ) → i < factors lag → get_or (chroma_fit R luma plane lag) i R.unquantised ≡ R.of (value r.solution.values i)

@@ -1,4 +1,3 @@
-pub mod Made
 pub mod Cells
 pub mod Zeros
 pub mod Places

@@ -7,7 +7,7 @@ use Rattle.fit.specs.declared.equations.ExactSums.{ExactSums}
 
 -- factors i and j, and factor i and the sample
 abbrev pub cell_in : ExactSums → ℕ → ℕ → Float
-cell_in e = cell_sum (sum_at e.sums.now e.lag) (at e.taps.now) e.squares e.lag
+cell_in e = cell_sum (sum_at e.sums.now e.lag.reach) (at e.taps.now) e.squares e.lag.reach
 
 abbrev pub right_in : ExactSums → ℕ → Float
-right_in e = right_sum (sum_at e.sums.now e.lag) (at e.taps.now) e.lag
+right_in e = right_sum (sum_at e.sums.now e.lag.reach) (at e.taps.now) e.lag.reach

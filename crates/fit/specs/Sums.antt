@@ -1,5 +1,5 @@
 -- "The exact sum adds the same products as whole numbers, or in sixteenths with luma averages": the equations from exact sums, each turned into an f64 once. The neighbours come first, then the sample itself; the luma average is the last factor of chroma.
-use Rattle.std.specs.Prelude.{◌≡◌, ℕ, ◌≤◌, cond, List, length, ℤ, nat_lt, Float}
+use Rattle.std.specs.Prelude.{◌≡◌, ℕ, cond, List, length, ℤ, nat_lt, Float}
 use Rattle.std.specs.Float.{binary64}
 use Rattle.std.specs.Float.Ieee.{div, of_int}
 use Rattle.laws.specs.Constants.{four}
@@ -11,7 +11,6 @@ use Rattle.fit.specs.Steps.{matrix_of, right_of, coefficients_of}
 
 -- room for the sums of a lag's neighbours and the sample, and for each of them with the luma average
 pub record Room (sums taps : List ℤ) (lag : ℕ) : Type 0 where
-  pub few : lag ≤ 3
   pub summed : length sums ≡ sums_size lag
   pub tapped : length taps ≡ factors lag
 

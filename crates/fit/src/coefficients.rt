@@ -20,7 +20,7 @@ fn quantise(values: [f64; ORDER_LIMIT]) -> [Quantised; ORDER_LIMIT]
 impl ExactSums<'_> {
     // The equations solved, and quantised; zeros where there is no solution.
     pub fn coefficients(&self) -> [Quantised; ORDER_LIMIT]
-        ensures { result ≡ exact_fit both (sum_at self.now.sums.now self.now.lag) (at self.now.taps.now) self.now.squares self.now.lag self.now.unknowns }
+        ensures { result ≡ exact_fit both (sum_at self.now.sums.now self.now.lag.reach) (at self.now.taps.now) self.now.squares self.now.lag.reach self.now.unknowns }
     {
         let solved = solve::solve_normal(self.matrix(), self.right_side(), self.unknowns);
         match solved.unwrap_or(None) {

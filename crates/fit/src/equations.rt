@@ -4,7 +4,7 @@ ghost use Rattle.positions.specs.Counts.{neighbours, factors};
 ghost use Rattle.fit.specs.Steps.{cell_of, row_of, matrix_of, value_of, right_of};
 ghost use Rattle.fit.specs.Sums.{Room};
 
-use crate::counts::neighbour_count;
+use positions::Lag;
 use solve::ORDER_LIMIT;
 
 // The sums of every two of a lag's neighbours and the sample; of each of them with the luma average; and of the average's squares. The first factors are unknowns.
@@ -13,10 +13,10 @@ pub struct ExactSums<'a> {
     pub sums: &'a [i64],
     pub taps: &'a [i64],
     pub squares: f64,
-    pub lag: usize,
+    pub lag: Lag,
     pub unknowns: usize,
-    ghost room: { Room sums.now taps.now lag },
-    ghost few: { unknowns ≤ factors lag },
+    ghost room: { Room sums.now taps.now lag.reach },
+    ghost few: { unknowns ≤ factors lag.reach },
 }
 
 impl ExactSums<'_> {
@@ -24,12 +24,12 @@ impl ExactSums<'_> {
 
     // Σ factor i × factor j, from a whole number, or from quarters with one average; `squares` with two.
     fn cell_sum(&self, i: usize, j: usize) -> f64
-        requires { (i ≤ neighbours self.now.lag) × (j ≤ neighbours self.now.lag) }
+        requires { (i ≤ neighbours self.now.lag.reach) × (j ≤ neighbours self.now.lag.reach) }
         ensures { result ≡ cell_in self.now i j }
     {
-        let n = neighbour_count(self.lag);
+        let n = self.lag.neighbours();
         if j < n {
-            let whole = normal::neighbour_sum(self.sums, self.lag, i, j);
+            let whole = normal::neighbour_sum(self.sums, self.lag.reach, i, j);
             std::num::nearest_i64_to_f64(whole)
         } else if i < n {
             std::num::nearest_i64_to_f64(self.taps[i]) / 4.0
@@ -40,12 +40,12 @@ impl ExactSums<'_> {
 
     // Σ factor i × sample.
     fn right_sum(&self, i: usize) -> f64
-        requires { i ≤ neighbours self.now.lag }
+        requires { i ≤ neighbours self.now.lag.reach }
         ensures { result ≡ right_in self.now i }
     {
-        let n = neighbour_count(self.lag);
+        let n = self.lag.neighbours();
         if i < n {
-            let whole = normal::neighbour_sum(self.sums, self.lag, i, n);
+            let whole = normal::neighbour_sum(self.sums, self.lag.reach, i, n);
             std::num::nearest_i64_to_f64(whole)
         } else {
             std::num::nearest_i64_to_f64(self.taps[n]) / 4.0

@@ -1,7 +1,6 @@
 // The auto-regressive coefficients of a frame's noise, by least squares.
 #![tactic(auto)]
 
-mod counts; // of neighbours and of sums
 mod equations; // the normal equations in f64, from exact sums
 mod coefficients; // solved and quantised
 mod planes; // the fit of a plane
@@ -11,14 +10,13 @@ ghost use Rattle.float.specs.Reading.{both};
 ghost use Rattle.fit.specs.Answer.{all_zero, first_of, unfit, fit_answer};
 ghost use Rattle.fit.specs.Record.{coefficients_in, marks_in, record_of};
 
-use counts::neighbour_count;
 use float::Quantised;
 use frame::{FramePair, Refusal, Shape};
 use planes::{Chroma, chroma_fit, luma_fit};
-use positions::NEIGHBOUR_LIMIT;
+use positions::{Lag, NEIGHBOUR_LIMIT};
 use solve::ORDER_LIMIT;
 
-// The coefficients, each times 64, with their marks, in the order of neighbours: `count` of luma, and of chroma one more, the luma tap. The unused ones are 0.
+// The coefficients, each times 64, with their marks, in the order of neighbours: `count` of luma, and of chroma one more, the luma tap. The unused ones are 0: arrays of the most, since there is no heap.
 #[derive(Clone, Copy, Debug, PartialEq, Eq)]
 pub struct Fitted {
     pub count: usize,
@@ -27,7 +25,8 @@ pub struct Fitted {
     pub cr: [Quantised; ORDER_LIMIT],
 }
 
-// The answer as C has it: a refusal's number; whether there is a fit; the coefficients, and then the mark of each.
+// The answer as C has it: a refusal's number; whether there is a fit; the coefficients, and then the mark of each. Numbers and a flag, since
+// an exported record holds no enum; an array of each field, as include/grain.h has them.
 #[repr(C)]
 #[derive(Clone, Copy)]
 pub struct Fit {
@@ -115,8 +114,10 @@ pub fn fit_ar_lag(s: Shape, frame: &FramePair<'_>, lag: usize) -> Result<Option<
     ensures { record_of result ≡ fit_answer s frame.now.source.y.now frame.now.source.cb.now frame.now.source.cr.now frame.now.denoised.y.now frame.now.denoised.cb.now frame.now.denoised.cr.now lag }
 {
     frame::ask_fit(s, frame, lag)?;
+    // The last question lets through what a Lag asks.
+    let lag = Lag { reach: lag };
     let shown = normal::show_frame(frame, frame::geometry_of(s));
-    let count = neighbour_count(lag);
+    let count = lag.neighbours();
     let luma = without_tap(luma_fit(&shown.luma, lag));
     if all_zero(&luma[..count]) {
         return Ok(None);

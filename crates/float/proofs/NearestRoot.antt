@@ -123,10 +123,6 @@ split-nearest n s lo hi l u =
     let K : s - 26 ≤ 2000 = omega arith in
     elim (dec_le rest q) [ yes h ↦ nearest-down _ (s - 26) q rest p K h | no f ↦ nearest-up _ (s - 26) q rest p K (lt_of_not-le f) ]
 
--- x is a whole number n / 2 ^ 2148, so its root is that of n in units
-pub under-root : (x : Float) → T (fits binary64 x) → T (positive x) → (n : ℕ) × HasValue x false n (2 ^ 1074 * 2 ^ 1074)
-under-root x t p = let d = normal x (pattern x t p) in (d.m * 2 ^ d.s, d.value)
-
 pub root-nearest : (x : Float) (n : ℕ) → T (fits binary64 x) → T (positive x) → HasValue x false n (2 ^ 1074 * 2 ^ 1074) → NearestRoot n (root x)
 root-nearest x n t p v =
     let f = fours x (normal x (pattern x t p)) in

@@ -1,5 +1,7 @@
 // What the Rust takes from f64 and i32, each function equal to its definition at every argument;
 // and by these the quantiser and sigma16.
+// `magnitude`, `round`, `as_u64` and `as_i32` only call std's: their contracts say it in the
+// definitions that those of the quantiser, sigma16 and the solver are made of.
 #![tactic(auto)]
 
 mod cast;

@@ -16,7 +16,8 @@ struct Digits {
 }
 
 // The root of m * 2^52: its 53 binary digits one at a time, the highest first. It ends as soon as
-// nothing remains, and the other digits are zeros.
+// nothing remains, and the other digits are zeros. By number, since the turn at which it ends is the
+// count of the digits worked.
 fn root_digits(m: u64) -> Digits
     requires { (2 ^ 52 ≤ m) × (m < 2 ^ 54) }
     ensures { (result.root ≡ whole_root (m * 2 ^ 52)) × (result.rest ≡ m * 2 ^ 52 - result.root * result.root) × (result.worked ≡ digits_of (m * 2 ^ 52)) }

@@ -1,6 +1,6 @@
 -- Laws of the first question that fails: a refused and an accepted call, questions asked after others, and an answer of 0. By cases on the answers. Assumes nothing.
 use mathlib.Core.Path.{◌≡◌, refl, sym, ap, ◌∙◌}
-use mathlib.Core.Bool.{Bool, true, false, cond, ◌&&◌, false≢true}
+use mathlib.Core.Bool.{Bool, true, false, cond, false≢true}
 use mathlib.Core.List.{List, [], ◌∷◌, ◌++◌}
 use Prim.Native.Nat.{ℕ, zero, suc}
 use native.Mathlib.Omega.{arith}
@@ -52,10 +52,6 @@ module _ (qs : List Question) (h : numbered qs ≡ true) {n : ℕ} (e : n ≡ fi
   -- a question more, as `ask` answers it
   pub asked : (q : Question) {r : Bool} {m : ℕ} → m ≡ accepted n (cond r 0 q.1) n → r ≡ q.0 → m ≡ first_no (qs ++ (q ∷ []))
   asked q f p = f ∙ rw (p, e) (sym (first-no-append qs (q ∷ []) h))
-
--- two answers together
-pub and_is : {r b r' b' : Bool} → r ≡ b → r' ≡ b' → (r && r') ≡ (b && b')
-and_is e e' = rw (e, e')
 
 -- ---- an answer of 0
 

@@ -6,27 +6,15 @@ use mathlib.Core.Logic.{⊎_elim}
 use Prim.Native.Nat.{ℕ, ◌+◌, ◌-◌, ◌*◌, ◌/◌, ◌≤◌, ◌<◌, ◌^◌, zero-le}
 use native.Mathlib.Nat.{le_trans, lt_of_lt_of_le, lt_of_le_of_lt, lt_irrefl, eq-or-lt_of_le, div-eq_of_lt, div-eq-sub-div}
 use native.Mathlib.Omega.{arith}
-use lib.Bits.{bit_or, or_add_and, and_le_l, and_le_r, or_lt}
+use lib.Bits.{bit_or, or_lt}
 use lib.Dec.{ltb, eqb}
 use lib.ListN.{length, get_or}
 use lib.Pow.{pow_pos, pow_mono}
 use borrow.Author.Tests.{ltb-true, ltb-false, lt-ltb, le-ltb, eq-eqb, ne_eqb}
+use Rattle.std.proofs.lemmas.Nat.{le_or_l, le_or_r}
+use Rattle.std.proofs.lemmas.Bool.{cases_lt}
 use Rattle.frame.specs.Questions.{low}
 use Rattle.frame.proofs.Samples.{low_below, below-low}
-
--- an or is no less than either
-or_above_l : (a b : ℕ) → a ≤ bit_or a b
-or_above_l a b = omega (arith, or_add_and a b, and_le_r a b)
-
-or_above_r : (a b : ℕ) → b ≤ bit_or a b
-or_above_r a b = omega (arith, or_add_and a b, and_le_l a b)
-
-below_or_not : {P : Type 0} (a b : ℕ) → (a < b → P) → (b ≤ a → P) → P
-below_or_not {P} a b f g = go (ltb a b) refl
-  where
-    go : (t : Bool) → ltb a b ≡ t → P
-    go true e = f (ltb-true a b e)
-    go false e = g (ltb-false a b e)
 
 module _ (depth : ℕ) (xs : List ℕ) where
   -- the samples from a up to b are low
@@ -48,9 +36,10 @@ module _ (depth : ℕ) (xs : List ℕ) where
 
   pub quarters-all : (q i : ℕ) → q ≤ i → Quarters q i → Range 0 (4 * q)
   quarters-all q i m r k h l =
-      below_or_not k q (λ o. r.0 k h (lt_of_lt_of_le o m))
-      (λ a. below_or_not k (2 * q) (λ o. r.1 k a (omega arith))
-      (λ b. below_or_not k (3 * q) (λ o. r.2 k b (omega arith)) (λ o. r.3 k o (omega arith))))
+      ⊎_elim
+      (λ o. r.0 k h (lt_of_lt_of_le o m))
+      (λ a. ⊎_elim (λ o. r.1 k a (omega arith)) (λ b. ⊎_elim (λ o. r.2 k b (omega arith)) (λ o. r.3 k o (omega arith)) (cases_lt k (3 * q))) (cases_lt k (2 * q)))
+      (cases_lt k q)
 
   -- one that is not low
   not_low : (k : ℕ) → 2 ^ depth ≤ get_or xs k 0 → low depth xs ≡ false
@@ -74,10 +63,10 @@ module _ (depth : ℕ) (xs : List ℕ) where
       let v = get_or xs k 0 in
       record {
         fits = or_lt 16 bits v g.fits x;
-        all = λ h. f (g.all (lt_of_le_of_lt (or_above_l bits v) h)) (lt_of_le_of_lt (or_above_r bits v) h);
-        some = λ h. below_or_not bits (2 ^ depth)
-            (λ l. below_or_not v (2 ^ depth) (λ m. absurd (lt_irrefl (2 ^ depth) (lt_of_le_of_lt h (or_lt depth bits v l m)))) (not_low k))
-            g.some;
+        all = λ h. f (g.all (lt_of_le_of_lt (le_or_l bits v) h)) (lt_of_le_of_lt (le_or_r bits v) h);
+        some = λ h. ⊎_elim
+            (λ l. ⊎_elim (λ m. absurd (lt_irrefl (2 ^ depth) (lt_of_le_of_lt h (or_lt depth bits v l m)))) (not_low k) (cases_lt v (2 ^ depth)))
+            g.some (cases_lt bits (2 ^ depth));
       }
 
   -- a turn: one sample more of each quarter
@@ -103,9 +92,10 @@ module _ (depth : ℕ) (xs : List ℕ) where
   -- ---- the plane's end
   answers : {bits : ℕ} → Gathered (Range 0 (length xs)) bits → low depth xs ≡ ltb bits (2 ^ depth)
   answers {bits} g =
-      below_or_not bits (2 ^ depth)
+      ⊎_elim
       (λ h. below-low depth xs (λ k l. g.all h k zero-le l) ∙ sym (lt-ltb bits (2 ^ depth) h))
       (λ h. g.some h ∙ sym (le-ltb bits (2 ^ depth) h))
+      (cases_lt bits (2 ^ depth))
 
   -- a depth that every u16 fits
   pub gathered-any : {bits : ℕ} → Gathered (Range 0 (length xs)) bits → 16 ≤ depth → true ≡ low depth xs

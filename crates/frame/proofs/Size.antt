@@ -1,4 +1,5 @@
 -- Chroma is no larger than luma, and a plane whose sides are at most a limit has at most its square of samples. Assumes nothing.
+use mathlib.Core.Path.{◌≡◌}
 use mathlib.Core.Bool.{Bool, true, false, cond}
 use Prim.Native.Nat.{ℕ, ◌+◌, ◌*◌, ◌≤◌}
 use native.Mathlib.Nat.{le_trans, mul-le-mul, add-le-add, lt_of_le_of_lt}
@@ -8,7 +9,8 @@ use mir.Syntax.{w64}
 use mir.Val.{Fits}
 use Rattle.laws.specs.Limits.{side_limit}
 use Rattle.frame.specs.Size.{chroma_width, chroma_height}
-use Rattle.frame.specs.Planes.{columns_of, rows_of, samples_of}
+use Rattle.frame.specs.Planes.{columns_of, rows_of, width_of, height_of, active_of}
+use Rattle.frame.specs.Inside.{Inside}
 use Rattle.frame.specs.declared.Shape.{Shape}
 use Rattle.frame.specs.declared.view.Component.{Component}
 use Rattle.frame.specs.declared.view.Component.TheVariants.{Y, CbCr}
@@ -24,9 +26,6 @@ chroma-width-le f w = cond-le (eqb f 0) (omega arith) (cond-le (leb f 2) (omega 
 pub chroma-height-le : (f h : ℕ) → chroma_height f h ≤ h
 unfolding chroma_height
 chroma-height-le f h = cond-le (eqb f 0) (omega arith) (cond-le (eqb f 1) (omega arith) (omega arith))
-
-pub chroma-samples-le : (s : Shape) → samples_of s CbCr ≤ samples_of s Y
-chroma-samples-le s = mul-le-mul (chroma-width-le s.format s.width) (chroma-height-le s.format s.height)
 
 -- a plane whose sides are at most a limit
 pub area-le : (l : ℕ) {w h : ℕ} → w ≤ l → h ≤ l → w * h ≤ l * l
@@ -44,6 +43,19 @@ pub rows-le : (format : ℕ) (component : Component) {x l : ℕ} → x ≤ l →
 rows-le format Y h = h
 rows-le format CbCr {x} h = le_trans (chroma-height-le format x) h
 
--- where a rectangle begins in a plane
-pub start_fits : {w top left : ℕ} → w ≤ side_limit → top ≤ side_limit → left ≤ side_limit → Fits w64 (top * w + left)
-start_fits {w} {top} {left} a b c = record { fits = lt_of_le_of_lt (add-le-add (area-le side_limit b a) c) (lit< tt) }
+-- the samples of a frame's plane
+pub samples_fit : (s : Shape) (component : Component) {w h : ℕ} → (s.width ≤ side_limit) × (s.height ≤ side_limit) → w ≡ width_of s component → h ≡ height_of s component → Fits w64 (w * h)
+samples_fit s component l a b = rw (a, b) (area-fits (columns-le s.format component l.0) (rows-le s.format component l.1))
+
+-- where the active rectangle begins in a plane: its row, and its place
+row-le : (s : Shape) (component : Component) → Inside s → (active_of s component).top * width_of s component ≤ side_limit * side_limit
+row-le s component h = let l : s.active.top ≤ side_limit = omega (arith, h.down, h.high) in area-le side_limit (rows-le s.format component l) (columns-le s.format component h.wide)
+
+pub row_fits : (s : Shape) (component : Component) {top step : ℕ} → Inside s → top ≡ (active_of s component).top → step ≡ width_of s component → Fits w64 (top * step)
+row_fits s component h a b = rw (a, b) (record { fits = lt_of_le_of_lt (row-le s component h) (lit< tt) })
+
+pub start_fits : (s : Shape) (component : Component) {top step left : ℕ} → Inside s → top ≡ (active_of s component).top → step ≡ width_of s component → left ≡ (active_of s component).left
+    → Fits w64 (top * step + left)
+start_fits s component h a b c =
+    let l : s.active.left ≤ side_limit = omega (arith, h.across, h.wide) in
+    rw (a, b, c) (record { fits = lt_of_le_of_lt (add-le-add (row-le s component h) (columns-le s.format component l)) (lit< tt) })

@@ -1,10 +1,10 @@
 // All questions of a call. Samples are looked at only where the numbers pass.
 ghost use Rattle.std.specs.Prelude.{◌≡◌, [], ◌∷◌, ◌≤◌, cond, length};
 ghost use Rattle.laws.specs.Limits.{side_limit};
-ghost use Rattle.frame.specs.Questions.{first_no, accepted};
+ghost use Rattle.frame.specs.Questions.{first_no};
 ghost use Rattle.frame.specs.Refusal.{number_of, number};
 ghost use Rattle.frame.specs.Planes.{samples_of};
-ghost use Rattle.frame.specs.Calls.{shape_numbers, pair_numbers, frame_numbers, gate_numbers, plane_refusal, lag_refusal, order_refusal, bits_refusal, pair_refusal, frame_refusal, fit_refusal, gate_refusal, denoise_frame_refusal};
+ghost use Rattle.frame.specs.Calls.{shape_numbers, pair_numbers, frame_numbers, plane_refusal, lag_refusal, order_refusal, bits_refusal, pair_refusal, frame_refusal, fit_refusal, gate_refusal, denoise_frame_refusal};
 
 use crate::alike::{all_are, all_low};
 use crate::{Component, FramePair, Pair, Planes, Refusal, Shape, questions};
@@ -16,7 +16,7 @@ pub fn ask(answer: bool, refusal: Refusal) -> Result<(), Refusal>
     if answer { Ok(()) } else { Err(refusal) }
 }
 
-// Question 7, of a lag.
+// Question 7, of a lag. It and question 9 differ in a limit and a refusal; one function of both would be `ask`.
 pub fn ask_lag(lag: usize) -> Result<(), Refusal>
     ensures { number_of result ≡ lag_refusal lag }
 {
@@ -49,17 +49,18 @@ pub fn ask_plane(width: usize, height: usize, src: usize, dst: usize) -> Result<
 // Questions 1, 3 and 5, of a lone plane and its denoised copy: those about numbers alone.
 #[tactic(auto, unfolding(crate::specs::Calls::pair_numbers))]
 pub fn ask_pair_numbers(
-    pair: Pair<'_>,
     width: usize,
     height: usize,
     depth: u8,
+    source: usize,
+    denoised: usize,
 ) -> Result<(), Refusal>
-    ensures { number_of result ≡ first_no (pair_numbers width height depth (length pair.entry.source.now ∷ length pair.entry.denoised.now ∷ [])) }
+    ensures { number_of result ≡ first_no (pair_numbers width height depth (source ∷ denoised ∷ [])) }
 {
     ask(questions::is_small(width, height), Refusal::SideAbove4096)?;
     ask(questions::depth_known(depth), Refusal::Depth)?;
     ask(
-        all_are(width * height, &[pair.source.len(), pair.denoised.len()]),
+        all_are(width * height, &[source, denoised]),
         Refusal::PlaneLength,
     )
 }
@@ -68,7 +69,7 @@ pub fn ask_pair_numbers(
 pub fn ask_pair(pair: Pair<'_>, width: usize, height: usize, depth: u8) -> Result<(), Refusal>
     ensures { number_of result ≡ pair_refusal width height depth pair.entry.source.now pair.entry.denoised.now }
 {
-    ask_pair_numbers(pair, width, height, depth)?;
+    ask_pair_numbers(width, height, depth, pair.source.len(), pair.denoised.len())?;
     ask(
         all_low(depth, &[pair.source, pair.denoised]),
         Refusal::SampleAboveDepth,
@@ -94,6 +95,7 @@ fn ask_shape(s: Shape) -> Result<(), Refusal>
 }
 
 // The samples of a plane.
+#[tactic(auto, using(crate::proofs::Size::samples_fit))]
 fn samples(s: Shape, component: Component) -> usize
     requires { (s.width ≤ side_limit) × (s.height ≤ side_limit) }
     ensures { result ≡ samples_of s component }
@@ -102,7 +104,7 @@ fn samples(s: Shape, component: Component) -> usize
 }
 
 // Questions 1 to 4, 12 and 5, of the planes of frames of one shape: of luma's lengths, and of chroma's.
-fn ask_lengths(s: Shape, luma: &[usize], chroma: &[usize]) -> Result<(), Refusal>
+pub fn ask_lengths(s: Shape, luma: &[usize], chroma: &[usize]) -> Result<(), Refusal>
     ensures { number_of result ≡ first_no (frame_numbers s luma.now chroma.now) }
 {
     ask_shape(s)?;
@@ -149,7 +151,7 @@ pub fn ask_fit(s: Shape, frame: &FramePair<'_>, lag: usize) -> Result<(), Refusa
     ask_lag(lag)
 }
 
-// Questions 1 to 4, 12, 5 and 6, of one component of two frames and of their denoised copies.
+// Questions 1 to 4, 12, 5 and 6, of one component of two frames and of their denoised copies: pairs as they are lent.
 pub fn ask_gate(
     s: Shape,
     component: Component,

@@ -9,17 +9,17 @@ mod planes; // planes as they are lent
 mod alike; // questions put to several planes alike
 mod asked; // all questions of a call
 
-ghost use Rattle.std.specs.Prelude.{◌≡◌, cond, ◌+◌, ◌/◌};
+ghost use Rattle.std.specs.Prelude.{◌≡◌};
 ghost use Rattle.frame.specs.Planes.{whole_frame, columns_of, rows_of, width_of, height_of, sampling_of};
 
 pub use active::{geometry_of, view_of};
 pub use asked::{
-    ask, ask_bits, ask_denoise_frame, ask_fit, ask_frame, ask_gate, ask_lag, ask_order, ask_pair,
-    ask_pair_numbers, ask_plane,
+    ask, ask_bits, ask_denoise_frame, ask_fit, ask_frame, ask_gate, ask_lag, ask_lengths,
+    ask_order, ask_pair, ask_pair_numbers, ask_plane,
 };
 pub use planes::{FramePair, Pair, Planes};
 pub use questions::{format_known, samples_low};
-pub use refusal::Refusal;
+pub use refusal::{Refusal, number_of};
 pub use view::{Component, Geometry, Sampling, View};
 
 // The largest width and the largest height.
@@ -41,23 +41,10 @@ pub struct Rectangle {
 pub struct Shape {
     pub width: usize,
     pub height: usize,
+    // Numbers and no enums: C lends any, and questions 3 and 4 ask them.
     pub depth: u8,
-    // A number and no enum: C lends any, and question 4 asks it.
     pub format: u8,
     pub active: Rectangle,
-}
-
-// A side of a chroma plane, from luma's: 0, (x + 1) / 2 or x
-fn chroma_side(absent: bool, halved: bool, x: usize) -> usize
-    ensures { result ≡ cond absent 0 (cond halved ((x + 1) / 2) x) }
-{
-    if absent {
-        0
-    } else if halved {
-        x.div_ceil(2)
-    } else {
-        x
-    }
 }
 
 impl Shape {
@@ -81,26 +68,36 @@ impl Shape {
     }
 
     // How many columns of a plane lie over x columns of luma.
+    #[tactic(auto, unfolding(crate::specs::Size::chroma_width))]
     fn columns_of(self, component: Component, x: usize) -> usize
         ensures { result ≡ columns_of self.format component x }
     {
         match component {
             Component::Y => x,
-            Component::CbCr => chroma_side(self.format == 0, self.format <= 2, x),
+            Component::CbCr => match self.format {
+                0 => 0,
+                1 | 2 => x.div_ceil(2),
+                _ => x,
+            },
         }
     }
 
     // How many rows of a plane lie over x rows of luma.
+    #[tactic(auto, unfolding(crate::specs::Size::chroma_height))]
     fn rows_of(self, component: Component, x: usize) -> usize
         ensures { result ≡ rows_of self.format component x }
     {
         match component {
             Component::Y => x,
-            Component::CbCr => chroma_side(self.format == 0, self.format == 1, x),
+            Component::CbCr => match self.format {
+                0 => 0,
+                1 => x.div_ceil(2),
+                _ => x,
+            },
         }
     }
 
-    // The columns of a plane.
+    // The columns of a plane. It and the next differ in a side; one function would take which side as one more argument.
     pub fn width_of(self, component: Component) -> usize
         ensures { result ≡ width_of self component }
     {

@@ -1,4 +1,4 @@
-// Planes as they are lent.
+// Planes as they are lent. Before the questions nothing holds of them and of the shape, or a lone plane's size, that comes beside them, so no struct joins these.
 
 // A plane and its denoised copy.
 #[derive(Clone, Copy)]

@@ -1,4 +1,7 @@
 // Why a call is refused.
+ghost use Rattle.std.specs.Prelude.{◌≡◌};
+ghost use Rattle.frame.specs.Refusal.{number, number_of};
+
 use std::error::Error;
 use std::fmt;
 
@@ -20,13 +23,20 @@ pub enum Refusal {
 }
 
 impl From<Refusal> for u32 {
-    ghost use Rattle.std.specs.Prelude.{◌≡◌};
-    ghost use Rattle.frame.specs.Refusal.{number};
-
     ghost from_gives = { λ refusal n. n ≡ number refusal };
 
     fn from(refusal: Refusal) -> u32 {
         refusal as u32
+    }
+}
+
+// The number of a call's outcome: a refusal's, 0 for none. (No `From`: both types are std's.)
+pub fn number_of<T>(outcome: &Result<T, Refusal>) -> u32
+    ensures { result ≡ number_of outcome.now }
+{
+    match outcome {
+        Ok(_) => 0,
+        Err(refusal) => u32::from(*refusal),
     }
 }
 

@@ -34,7 +34,7 @@ pub enum Component {
     CbCr,
 }
 
-// How many luma samples make a chroma sample: 1 where the format halves the columns, and the rows, else 0.
+// A chroma sample lies over 2^across columns and 2^down rows of luma: each is 1 where the format halves that direction, else 0. Amounts and no flags, as the specification's subX and subY, by which sizes are shifted: luma's row r × (down + 1) is the first under chroma's row r.
 #[derive(Clone, Copy)]
 pub struct Sampling {
     pub across: usize,

@@ -13,9 +13,9 @@ ghost use Rattle.gate.specs.Answers.{rho_answer, luma_answer, chroma_answer};
 ghost use Rattle.gate.specs.Record.{record_of};
 
 use frame::{Component, Pair, Refusal, Shape, View};
-use noise::PlanePair;
+use noise::{PlanePair, TwoFrames};
 
-// What a gate answers, as C has it.
+// What a gate answers, as C has it: a refusal's number, and the answer beside it, since an exported record holds no enum.
 #[repr(C)]
 #[derive(Clone, Copy)]
 pub struct Gate {
@@ -24,9 +24,6 @@ pub struct Gate {
 }
 
 impl From<Result<bool, Refusal>> for Gate {
-    ghost use Rattle.std.specs.Prelude.{◌≡◌};
-    ghost use Rattle.gate.specs.Record.{record_of};
-
     ghost from_gives = { λ answer r. r ≡ record_of answer };
 
     fn from(answer: Result<bool, Refusal>) -> Gate {
@@ -53,7 +50,21 @@ fn seen(pair: Pair<'_>, view: View) -> PlanePair<'_>
     }
 }
 
-// Σ n(r, c) × n(r, c + lag) / Σ n(r, c)², n the noise: from -1 to 1; 0.0 where there is nothing to divide.
+// A plane of two frames, as a view shows it.
+fn two_frames<'a>(first: Pair<'a>, second: Pair<'a>, view: View) -> TwoFrames<'a>
+    requires first { Seen view first.source.now first.denoised.now }
+    requires second { Seen view second.source.now second.denoised.now }
+    ensures first { shown result.first ≡ seen view first.entry.source.now first.entry.denoised.now }
+    ensures second { shown result.second ≡ seen view second.entry.source.now second.entry.denoised.now }
+    ensures view { result.first.view ≡ view }
+{
+    TwoFrames {
+        first: seen(first, view),
+        second: seen(second, view),
+    }
+}
+
+// Σ n(r, c) × n(r, c + lag) / Σ n(r, c)², n the noise: from -1 to 1; 0.0 where there is nothing to divide. (The size stands beside the plane and in no struct: nothing holds of them before the questions.)
 pub fn lag_h_rho(
     pair: Pair<'_>,
     width: usize,
@@ -68,17 +79,17 @@ pub fn lag_h_rho(
     Ok(row_correlation::row_correlation(&plane, lag))
 }
 
-// Whether the luma of two frames carries grain: the tests of the luma gate, in their order.
+// Whether the luma of two frames carries grain: the tests of the luma gate, in their order. (Two pairs and no `TwoFrames`: nothing holds of them before the questions.)
 pub fn film_grain_probe(s: Shape, first: Pair<'_>, second: Pair<'_>) -> Result<bool, Refusal>
     ensures { record_of result ≡ luma_answer s first.entry.source.now first.entry.denoised.now second.entry.source.now second.entry.denoised.now }
 {
     frame::ask_gate(s, Component::Y, first, second)?;
     let view = frame::view_of(s, Component::Y);
-    let shift = (s.depth - 8) as u32;
-    Ok(finding::luma_finding(&seen(first, view), &seen(second, view), shift).is_ok())
+    let shift = noise::depth_shift(s.depth);
+    Ok(finding::luma_finding(&two_frames(first, second, view), shift).is_ok())
 }
 
-// Whether one chroma component of two frames carries grain: the tests of the chroma gate, in their order.
+// Whether one chroma component of two frames carries grain: the tests of the chroma gate, in their order. (Two pairs, likewise.)
 pub fn chroma_noise_gate(
     s: Shape,
     first: Pair<'_>,
@@ -89,5 +100,5 @@ pub fn chroma_noise_gate(
 {
     frame::ask_gate(s, Component::CbCr, first, second)?;
     let view = frame::view_of(s, Component::CbCr);
-    Ok(finding::chroma_finding(sigma16, &seen(first, view), &seen(second, view)).is_ok())
+    Ok(finding::chroma_finding(sigma16, &two_frames(first, second, view)).is_ok())
 }

@@ -4,7 +4,7 @@ ghost use Rattle.noise.specs.PlanePair.{shown};
 ghost use Rattle.gate.specs.RowCorrelation.{correlation_of, row_correlation};
 
 use crate::sums;
-use noise::PlanePair;
+use noise::{PlanePair, Shift};
 
 // The quotient of the two sums; 0.0 where there is nothing to divide.
 pub fn correlation_of(width: usize, height: usize, lag: usize, energy: f64, lagged: f64) -> f64
@@ -25,6 +25,6 @@ pub fn row_correlation(pair: &PlanePair, lag: usize) -> f64
     if lag == 0 || view.width <= lag {
         return 0.0;
     }
-    let sums = sums::of_plane(pair, lag, 0);
+    let sums = sums::of_plane(pair, lag, Shift { bits: 0 });
     correlation_of(view.width, view.height, lag, sums.energy, sums.lagged)
 }

@@ -1,11 +1,8 @@
 // The sums of a gate: each is worked exactly in whole numbers, and turned into an f64 once where the Rust has an f64.
-ghost use Rattle.std.specs.Prelude.{◌≡◌, ◌*◌, ◌<◌, ◌≤◌};
-ghost use Rattle.laws.specs.Limits.{side_limit};
-ghost use Rattle.noise.specs.PlanePair.{shown, SameSize};
+ghost use Rattle.noise.specs.PlanePair.{shown};
 ghost use Rattle.gate.specs.FrameSums.{FirstSumsOf, SecondSumsOf};
 
-use frame::View;
-use noise::PlanePair;
+use noise::{PlanePair, Shift, TwoFrames};
 
 // Of a noise n: Σ (n >> shift)², Σ n² and Σ n(r, c) × n(r, c + lag).
 #[derive(Clone, Copy)]
@@ -22,19 +19,9 @@ pub struct SecondSums {
     pub cross: f64,
 }
 
-// The samples that a view shows.
-pub fn samples(view: View) -> usize
-    requires { (view.width ≤ side_limit) × (view.height ≤ side_limit) }
-    ensures { result ≡ view.width * view.height }
-{
-    view.width * view.height
-}
-
 // The sums of the first frame's plane.
-pub fn of_plane(pair: &PlanePair, lag: usize, shift: u32) -> FirstSums
-    requires lag { lag ≤ pair.now.view.width }
-    requires shift { shift < 16 }
-    ensures { FirstSumsOf (shown pair.now) lag shift result }
+pub fn of_plane(pair: &PlanePair, lag: usize, shift: Shift) -> FirstSums
+    ensures { FirstSumsOf (shown pair.now) lag shift.bits result }
 {
     let sums = noise::plane_sums(pair, lag, shift);
     FirstSums {
@@ -45,11 +32,10 @@ pub fn of_plane(pair: &PlanePair, lag: usize, shift: u32) -> FirstSums
 }
 
 // The sums of the second frame's plane, and of both.
-pub fn of_pair(first: &PlanePair, second: &PlanePair) -> SecondSums
-    requires { SameSize first.now.view second.now.view }
-    ensures { SecondSumsOf (shown first.now) (shown second.now) result }
+pub fn of_pair(frames: &TwoFrames) -> SecondSums
+    ensures { SecondSumsOf (shown frames.now.first) (shown frames.now.second) result }
 {
-    let sums = noise::pair_sums(first, second);
+    let sums = noise::pair_sums(frames);
     SecondSums {
         second: std::num::nearest_i64_to_f64(sums.second),
         cross: std::num::nearest_i64_to_f64(sums.cross),

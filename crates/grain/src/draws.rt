@@ -1,4 +1,4 @@
-// The seed of a frame's grain, and the random register.
+// The seed of a frame's grain, and the random register. Alike calls stand one by one, since no exported function is generic.
 ghost use Rattle.std.specs.Prelude.{◌≡◌};
 ghost use Rattle.random.specs.Seed.{seed};
 ghost use Rattle.frame.specs.Refusal.{numbered};
@@ -8,7 +8,7 @@ ghost use Rattle.grain.specs.Records.{of_draw, of_stepped, of_next};
 use frame::Refusal;
 use random::{RandomRegister, Stepped};
 
-// A draw as a record.
+// A draw, as C has it: a refusal's number, and the bits beside it, since an exported record holds no enum.
 #[repr(C)]
 #[derive(Clone, Copy)]
 pub struct DrawRecord {
@@ -16,7 +16,7 @@ pub struct DrawRecord {
     pub value: u32,
 }
 
-// A draw, and the register after it.
+// A draw, likewise as C has it, and the register after it.
 #[repr(C)]
 #[derive(Clone, Copy)]
 pub struct StepRecord {

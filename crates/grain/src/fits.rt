@@ -1,4 +1,4 @@
-// The quantiser, the solver, and the fit with its neighbours.
+// The quantiser, the solver, and the fit with its neighbours. Alike calls stand one by one, since no exported function is generic.
 ghost use Rattle.std.specs.Prelude.{◌≡◌};
 ghost use Rattle.float.specs.Reading.{quantise};
 ghost use Rattle.solve.specs.Answer.{solved_of};
@@ -13,7 +13,7 @@ use frame::Shape;
 use positions::Positions;
 use solve::Solved;
 
-// `Quantised` as a record.
+// `Quantised`, as C has it: the mark is a number, since an exported record holds no enum.
 #[repr(C)]
 #[derive(Clone, Copy)]
 pub struct QuantisedRecord {
@@ -53,6 +53,7 @@ pub extern "C" fn grain_ar_positions(lag: usize) -> Positions
     positions::ar_positions(lag).into()
 }
 
+// C lends each plane by itself.
 #[unsafe(no_mangle)]
 pub extern "C" fn grain_fit_ar_lag(
     s: Shape,

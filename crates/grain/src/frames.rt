@@ -1,4 +1,4 @@
-// Calls on a whole frame.
+// Calls on a whole frame. Alike calls stand one by one, since no exported function is generic.
 ghost use Rattle.std.specs.Prelude.{◌≡◌};
 ghost use Rattle.denoise.specs.Calls.{planes, frame_outcome};
 ghost use Rattle.profile.specs.Answers.{estimate_answer};
@@ -10,6 +10,7 @@ use denoise::PlanesMut;
 use frame::{Planes, Shape};
 use profile::NoiseEstimate;
 
+// C lends each plane by itself, and is given a refusal's number: an exported function returns no enum.
 #[unsafe(no_mangle)]
 pub extern "C" fn grain_denoise_frame(
     s: Shape,
@@ -28,9 +29,10 @@ pub extern "C" fn grain_denoise_frame(
         cb: cbout,
         cr: crout,
     };
-    crate::number_of(denoise::denoise_frame(s, &source, into))
+    frame::number_of(&denoise::denoise_frame(s, &source, into))
 }
 
+// C lends each plane by itself.
 #[unsafe(no_mangle)]
 pub extern "C" fn grain_noise_estimate(
     s: Shape,
@@ -46,6 +48,7 @@ pub extern "C" fn grain_noise_estimate(
     profile::noise_estimate(s, &frame_pair(y, cb, cr, yden, cbden, crden)).into()
 }
 
+// C lends each plane by itself.
 #[unsafe(no_mangle)]
 pub extern "C" fn grain_fit_chroma_corr(
     s: Shape,

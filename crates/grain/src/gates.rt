@@ -1,12 +1,13 @@
 // Row correlation, and the gates on two frames.
 ghost use Rattle.std.specs.Prelude.{◌≡◌};
+ghost use Rattle.frame.specs.Refusal.{numbered};
 ghost use Rattle.gate.specs.Answers.{rho_answer, luma_answer, chroma_answer};
 ghost use Rattle.grain.specs.Records.{of_rho};
 
 use frame::{Pair, Refusal, Shape};
 use gate::Gate;
 
-// The row correlation, as C has it.
+// The row correlation, as C has it: a refusal's number, and the value beside it, since an exported record holds no enum.
 #[repr(C)]
 #[derive(Clone, Copy)]
 pub struct RhoRecord {
@@ -15,10 +16,6 @@ pub struct RhoRecord {
 }
 
 impl From<Result<f64, Refusal>> for RhoRecord {
-    ghost use Rattle.std.specs.Prelude.{◌≡◌};
-    ghost use Rattle.frame.specs.Refusal.{numbered};
-    ghost use Rattle.grain.specs.Records.{of_rho};
-
     ghost from_gives = { λ answer r. r ≡ of_rho (numbered answer) };
 
     fn from(answer: Result<f64, Refusal>) -> RhoRecord {
@@ -32,6 +29,7 @@ impl From<Result<f64, Refusal>> for RhoRecord {
     }
 }
 
+// C lends each plane by itself.
 #[unsafe(no_mangle)]
 pub extern "C" fn grain_lag_h_rho(
     src: &[u16],
@@ -50,6 +48,7 @@ pub extern "C" fn grain_lag_h_rho(
     gate::lag_h_rho(pair, width, height, lag, depth).into()
 }
 
+// C lends each plane by itself.
 #[unsafe(no_mangle)]
 pub extern "C" fn grain_film_grain_probe(
     s: Shape,
@@ -71,6 +70,7 @@ pub extern "C" fn grain_film_grain_probe(
     gate::film_grain_probe(s, first, second).into()
 }
 
+// C lends each plane by itself.
 #[unsafe(no_mangle)]
 pub extern "C" fn grain_chroma_noise_gate(
     s: Shape,

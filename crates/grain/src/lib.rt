@@ -1,4 +1,5 @@
 // The C interface: each call of the library under a name of its own, as include/grain.h declares it.
+// Calls that are handed on alike stand one by one, since no exported function is generic.
 #![tactic(auto)]
 
 pub mod planes; // denoise and sigma16 of a plane
@@ -10,16 +11,8 @@ pub mod draws; // seed and random register
 pub mod headers; // a frame header's grain part
 
 ghost use Rattle.std.specs.Prelude.{◌≡◌};
-ghost use Rattle.frame.specs.Refusal.{number_of};
 
-use frame::{FramePair, Planes, Refusal};
-
-// The number of an outcome's refusal, 0 where it is accepted.
-fn number_of(outcome: Result<(), Refusal>) -> u32
-    ensures { result ≡ number_of outcome }
-{
-    outcome.err().map_or(0, u32::from)
-}
+use frame::{FramePair, Planes};
 
 // The planes of a frame and of its denoised copy, of which C lends each by itself.
 fn frame_pair<'a>(

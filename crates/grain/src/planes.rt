@@ -6,6 +6,7 @@ ghost use Rattle.profile.specs.Answers.{sigma_answer};
 use frame::Pair;
 use profile::Sigma;
 
+// C is given a refusal's number: an exported function returns no enum.
 #[unsafe(no_mangle)]
 pub extern "C" fn grain_denoise_plane(
     src: &[u16],
@@ -15,9 +16,10 @@ pub extern "C" fn grain_denoise_plane(
 ) -> u32
     ensures { (result, dst.new) ≡ plane_outcome src.now dst.old width height }
 {
-    crate::number_of(denoise::denoise_plane(src, dst, width, height))
+    frame::number_of(&denoise::denoise_plane(src, dst, width, height))
 }
 
+// C lends each plane by itself.
 #[unsafe(no_mangle)]
 pub extern "C" fn grain_plane_sigma16(
     src: &[u16],

@@ -1,6 +1,6 @@
 -- A record in bytes: its fields with its lists are the record, and all after the slot is 0 where bytes 6 to 165 are. Assumes nothing.
 use mathlib.Core.Path.{◌≡◌, refl, sym, ◌∙◌}
-use mathlib.Core.Bool.{Bool, true, false, not, ◌&&◌, and-true, and_assoc, and-eq-true_iff}
+use mathlib.Core.Bool.{Bool, true, false, not, not-not, ◌&&◌, and-true, and_assoc, and-eq-true_iff}
 use mathlib.Core.List.{List}
 use mathlib.Core.Logic.{◌↔◌, ⊎_elim}
 use Prim.Native.Nat.{ℕ, zero, suc, ◌+◌, ◌*◌, ◌<◌, ◌≤◌}
@@ -11,6 +11,7 @@ use lib.Dec.{eqb}
 use lib.ListN.{length, get_or, take, drop, length-drop}
 use lib.Seq.{get_or-take, get_or-drop, length-take-le}
 use borrow.Author.Tests.{eqb-true, eqb-false, eq-eqb, ne_eqb}
+use Rattle.std.proofs.lemmas.List.{get_or_default}
 use Rattle.std.specs.Bool.{IsTrue}
 use Rattle.std.specs.Cmp.{both_ways}
 use Rattle.std.specs.List.{All as Each}
@@ -23,7 +24,6 @@ use Rattle.header.specs.Text.{uncoded, point, points, coeff, coeffs, rest, count
 use Rattle.header.specs.Bits.{all_allowed}
 use Rattle.header.proofs.Folds.{allowed-each}
 use Rattle.header.proofs.Lists.{none_allowed, point-skipped, coeff-skipped}
-use Rattle.header.proofs.Listed.{inside}
 use Rattle.header.proofs.Short.{rest-zero}
 
 -- fields that bytes hold, put together with the lists that they hold, are the record in those bytes
@@ -54,10 +54,6 @@ zeros-all l a (suc n) =
       λ e k h. ⊎_elim (λ (p : k ≡ n). rw p (eqb-true (get_or l (a + n) 0) 0 (b.0 e).1)) (λ (m : k < n). q.0 (b.0 e).0 k m) (eq-or-lt_of_le (omega arith)),
       λ h. b.1 (q.1 (λ k m. h k (omega arith)), eq-eqb (get_or l (a + n) 0) 0 (h n (omega arith))),
     )
-
-not-not : (b : Bool) → not (not b) ≡ b
-not-not true = refl
-not-not false = refl
 
 both_zero : (x y : ℕ) → eqb (x + 256 * y) 0 ≡ (eqb x 0 && eqb y 0)
 both_zero x y = go (eqb x 0) refl (eqb y 0) refl
@@ -126,7 +122,7 @@ module _ (l : List ℕ) where
   one_list a n = coeffs-zero a n n (omega arith)
 
   -- byte 6 to byte 165
-  pub rest-zeros : (format : ℕ) → zeros l 6 160 ≡ all_allowed (rest (stored l) format uncoded)
+  rest-zeros : (format : ℕ) → zeros l 6 160 ≡ all_allowed (rest (stored l) format uncoded)
   unfolding stored
   rest-zeros format =
       let luma = joined 6 1 28 (byte-zero 6) (two-lists 7 14) in
@@ -146,5 +142,5 @@ module _ (l : List ℕ) where
       let long : length (take 160 (drop 6 l)) ≡ 160 = length-take-le 160 (drop 6 l) (rw (length-drop 6 l, whole) (omega arith)) in
       both_ways z (zeros l 6 160)
       (λ e. a.1 (λ k h. rw (get_or-take 160 (drop 6 l) k 0 h, get_or-drop 6 l k 0) at (q.0 e k 0 (rw long h))))
-      (λ e. q.1 (λ k d h. let m : k < 160 = rw long at h in inside (take 160 (drop 6 l)) k d h ∙ rw (get_or-take 160 (drop 6 l) k 0 m, get_or-drop 6 l k 0) (a.0 e k m)))
+      (λ e. q.1 (λ k d h. let m : k < 160 = rw long at h in get_or_default (take 160 (drop 6 l)) k d 0 h ∙ rw (get_or-take 160 (drop 6 l) k 0 m, get_or-drop 6 l k 0) (a.0 e k m)))
       ∙ rest-zeros format

@@ -1,7 +1,7 @@
 -- A plane's points, and its coefficients: allowed exactly if those that the syntax has keep their limits and the others are 0. The code's tests, on the two parts of a list, decide that. Assumes nothing.
 use mathlib.Core.Path.{◌≡◌, refl, sym, ◌∙◌}
 use mathlib.Core.Bool.{Bool, true, false, cond, ◌&&◌, false≢true, and-eq-true_iff}
-use mathlib.Core.List.{List, [], ◌∷◌}
+use mathlib.Core.List.{List}
 use mathlib.Core.Logic.{◌↔◌}
 use Prim.Native.Nat.{ℕ, zero, suc, ◌+◌, ◌-◌, ◌<◌, ◌≤◌, min}
 use native.Mathlib.Omega.{arith}
@@ -10,6 +10,7 @@ use lib.Dec.{ltb, eqb}
 use lib.ListN.{length, get_or, take, drop, length-drop}
 use lib.Seq.{get_or-take, get_or-drop, length-take-le}
 use borrow.Author.Tests.{ltb-true, ltb-false, lt-ltb, le-ltb, ne_eqb}
+use Rattle.std.proofs.lemmas.List.{get_or_default}
 use Rattle.std.specs.Bool.{IsTrue}
 use Rattle.std.specs.Cmp.{both_ways}
 use Rattle.std.specs.List.{All as Each, IsAllAdjacentAnswer}
@@ -107,11 +108,6 @@ rising-answered xs true h = (λ e i k. ltb-true (get_or xs i 0) (get_or xs (i + 
 rising-answered xs false (i, k, h) =
     (λ e. absurd (false≢true e), λ f. absurd (let a = ltb-false (get_or xs i 0) (get_or xs (i + 1) 0) (sym (h 0)) in omega (arith, f i k)))
 
-pub inside : (xs : List ℕ) (k d : ℕ) → k < length xs → get_or xs k d ≡ get_or xs k 0
-inside [] k d a = absurd (omega arith)
-inside (x ∷ xs) zero d a = refl
-inside (x ∷ xs) (suc k) d a = inside xs k d (omega arith)
-
 -- the first n of a list, and the others
 module _ (l : List ℕ) (n : ℕ) (h : n ≤ length l) where
   first-rising : Rising (length (take n l)) (take n l) ↔ Rising n l
@@ -129,7 +125,7 @@ module _ (l : List ℕ) (n : ℕ) (h : n ≤ length l) where
         rw (get_or-drop n l (i - n) 0, e) at (z (i - n) 0 k),
     λ p k d a.
         let b : k < length l - n = rw (length-drop n l) at a in
-        inside (drop n l) k d a ∙ (get_or-drop n l k 0 ∙ p (n + k) (omega arith) (omega arith)),
+        get_or_default (drop n l) k d 0 a ∙ (get_or-drop n l k 0 ∙ p (n + k) (omega arith) (omega arith)),
   )
 
 -- as the code answers

@@ -67,11 +67,11 @@ byte-bit bs h j k l =
 
 -- ---- the bytes
 
-packed-at : (bs d : List ℕ) (j : ℕ) → j < length d → get_or (packed bs d) j 0 ≡ cond (ltb (8 * j) (length bs)) (byte_at bs j) (get_or d j 0)
+pub packed-at : (bs d : List ℕ) (j : ℕ) → j < length d → get_or (packed bs d) j 0 ≡ cond (ltb (8 * j) (length bs)) (byte_at bs j) (get_or d j 0)
 unfolding packed
 packed-at bs d j = get_d_tabulate (length d) (λ i. cond (ltb (8 * i) (length bs)) (byte_at bs i) (get_or d i 0)) j 0
 
-packed-length : (bs d : List ℕ) → length (packed bs d) ≡ length d
+pub packed-length : (bs d : List ℕ) → length (packed bs d) ≡ length d
 unfolding packed
 packed-length bs d = length-tabulate (length d) (λ i. cond (ltb (8 * i) (length bs)) (byte_at bs i) (get_or d i 0))
 

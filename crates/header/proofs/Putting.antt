@@ -1,7 +1,7 @@
 -- A list put place by place: none at first, each place that the syntax has, and nothing past them. Assumes nothing.
-use mathlib.Core.Path.{◌≡◌, refl, sym}
+use mathlib.Core.Path.{◌≡◌, refl}
 use mathlib.Core.List.{List, ◌∷◌}
-use Prim.Native.Nat.{ℕ, ◌+◌, ◌*◌, ◌<◌, ◌≤◌, min}
+use Prim.Native.Nat.{ℕ, ◌+◌, ◌<◌, ◌≤◌, min}
 use native.Mathlib.Omega.{arith}
 use native.Mathlib.Numerals.{add-one}
 use lib.ListN.{length, get_or, take, drop, length-drop}
@@ -13,7 +13,7 @@ use Rattle.header.specs.Bits.{digits, bits_of}
 use Rattle.header.specs.Held.{Puts}
 use Rattle.header.proofs.Folds.{bits_each, bits-past}
 use Rattle.header.proofs.Lists.{none-bits, point-bits, point-none, coeff-bits, coeff-none}
-use Rattle.header.proofs.Holding.{puts-none, puts_then, puts_as}
+use Rattle.header.proofs.Holding.{puts-none, puts_then}
 
 -- the first of what is left of a list after k
 pub next_place : (l : List ℕ) (k : ℕ) {x : ℕ} {rest : List ℕ} → drop k l ≡ x ∷ rest → (k < length l) × (x ≡ get_or l k 0) × (rest ≡ drop (k + 1) l)
@@ -34,29 +34,26 @@ module _ (n : ℕ) (l : List ℕ) {first : List ℕ} (e : first ≡ take (min n 
 pub part-ended : (n : ℕ) (l : List ℕ) (k : ℕ) → length (drop k (take (min n (length l)) l)) ≡ 0 → min n (length l) ≤ k
 part-ended n l k h = omega (arith, length-drop k (take (min n (length l)) l), part-length n l refl)
 
-pub puts-start : {w : BitWriter} (f : ℕ → List Row) → Puts (bits_of (each 0 f)) 0 w w
-puts-start f = puts_as (sym (none-bits f)) (omega arith) (puts-none {n = 0})
+pub puts-start : {w : BitWriter} (f : ℕ → List Row) → Puts (bits_of (each 0 f)) w w
+puts-start f = rw (none-bits f) puts-none
 
 module _ (n : ℕ) (values : List ℕ) where
-  pub coeffs-more : {u v w : BitWriter} (k : ℕ) → k < n → Puts (bits_of (each k (coeff n values))) k u v → Puts (digits 8 (get_or values k 0)) 1 v w
-      → Puts (bits_of (each (k + 1) (coeff n values))) (k + 1) u w
+  pub coeffs-more : {u v w : BitWriter} (k : ℕ) → k < n → Puts (bits_of (each k (coeff n values))) u v → Puts (digits 8 (get_or values k 0)) v w
+      → Puts (bits_of (each (k + 1) (coeff n values))) u w
   coeffs-more k h a b = rw (bits_each k (coeff n values), coeff-bits n values k h) (puts_then a b)
 
-  pub coeffs-done : {u v : BitWriter} (k : ℕ) → min n (length values) ≤ k → k ≤ length values → Puts (bits_of (each k (coeff n values))) k u v
-      → Puts (bits_of (coeffs (length values) n values)) (length values) u v
+  pub coeffs-done : {u v : BitWriter} (k : ℕ) → min n (length values) ≤ k → k ≤ length values → Puts (bits_of (each k (coeff n values))) u v
+      → Puts (bits_of (coeffs (length values) n values)) u v
   unfolding coeffs
-  coeffs-done k h l a =
-      puts_as (sym (bits-past k (length values) (coeff n values) l (λ i a b. coeff-none n values i (omega arith)))) l a
+  coeffs-done k h l a = rw (bits-past k (length values) (coeff n values) l (λ i a b. coeff-none n values i (omega arith))) a
 
 module _ (n : ℕ) (values scalings : List ℕ) where
-  pub points-more : {u v w x : BitWriter} (k : ℕ) → k < n → Puts (bits_of (each k (point n values scalings))) (2 * k) u v
-      → Puts (digits 8 (get_or values k 0)) 1 v w → Puts (digits 8 (get_or scalings k 0)) 1 w x
-      → Puts (bits_of (each (k + 1) (point n values scalings))) (2 * (k + 1)) u x
-  points-more k h a b c =
-      puts_as (sym (rw (bits_each k (point n values scalings), point-bits n values scalings k h))) (omega arith) (puts_then a (puts_then b c))
+  pub points-more : {u v w x : BitWriter} (k : ℕ) → k < n → Puts (bits_of (each k (point n values scalings))) u v
+      → Puts (digits 8 (get_or values k 0)) v w → Puts (digits 8 (get_or scalings k 0)) w x
+      → Puts (bits_of (each (k + 1) (point n values scalings))) u x
+  points-more k h a b c = rw (bits_each k (point n values scalings), point-bits n values scalings k h) (puts_then a (puts_then b c))
 
-  pub points-done : {u v : BitWriter} (k : ℕ) → min n (length values) ≤ k → k ≤ length values → Puts (bits_of (each k (point n values scalings))) (2 * k) u v
-      → Puts (bits_of (points (length values) n values scalings)) (2 * length values) u v
+  pub points-done : {u v : BitWriter} (k : ℕ) → min n (length values) ≤ k → k ≤ length values → Puts (bits_of (each k (point n values scalings))) u v
+      → Puts (bits_of (points (length values) n values scalings)) u v
   unfolding points
-  points-done k h l a =
-      puts_as (sym (bits-past k (length values) (point n values scalings) l (λ i a b. point-none n values scalings i (omega arith)))) (omega arith) a
+  points-done k h l a = rw (bits-past k (length values) (point n values scalings) l (λ i a b. point-none n values scalings i (omega arith))) a

@@ -1,4 +1,4 @@
-// A frame's format, of the number that a call of C gives.
+// A frame's format, of the number that a call of C gives. It is header's own: `Shape` of `frame` holds the number, since C lends any and the functions there answer for each, so that no other crate would use the enum.
 use frame::Refusal;
 
 #[derive(Clone, Copy, PartialEq, Eq)]

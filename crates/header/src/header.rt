@@ -23,6 +23,7 @@ impl<'a> Header<'a> {
     ghost use Rattle.std.specs.Prelude.{◌+◌, ◌*◌, ◌≤◌, length};
     ghost use Rattle.header.specs.Stored.{items_from};
 
+    // Here `inter` and `format` become one value with the record; before, each is as it is lent.
     pub fn new(bytes: &'a [u8; 168], inter: bool, format: Format) -> Header<'a>
         ensures { (result.bytes.now ≡ bytes.now) × (result.inter ≡ inter) × (result.format ≡ format) }
     {
@@ -36,7 +37,7 @@ impl<'a> Header<'a> {
         }
     }
 
-    // A plane's points: the values from there on, and as many scalings after them.
+    // A plane's points: the values from `list.at` on, and as many scalings after them.
     pub fn points(&self, list: List) -> Points<'a>
         requires { list.at + 2 * list.places ≤ 168 }
         ensures values { result.values.now ≡ items_from self.now.bytes.now list.at list.places }

@@ -40,8 +40,13 @@ impl From<Result<usize, Refusal>> for Written {
     }
 }
 
-// How many bits of the record are put into `dst`, or the first question whose answer is no.
-fn write(p: &[u8; 168], inter: bool, format: u8, dst: &mut [u8]) -> Result<usize, Refusal>
+// The bits of 5.9.30 into `dst`, the highest of a byte first, of a record that is lent as its bytes: how many they are, or the first question whose answer is no. The format is a number, since C lends any, and question 4 asks it.
+pub fn write_film_grain_params(
+    p: &[u8; 168],
+    inter: bool,
+    format: u8,
+    dst: &mut [u8],
+) -> Result<usize, Refusal>
     ensures { (written_of result, dst.new) ≡ write_outcome (stored p.now) inter format dst.old }
 {
     let header = Header::new(p, inter, Format::try_from(format)?);
@@ -50,11 +55,4 @@ fn write(p: &[u8; 168], inter: bool, format: u8, dst: &mut [u8]) -> Result<usize
     ask(bits.div_ceil(8) <= dst.len(), Refusal::HeaderRoom)?;
     header.put(dst);
     Ok(bits)
-}
-
-// The bits of 5.9.30 into `dst`, the highest of a byte first, of a record that is lent as its bytes.
-pub fn write_film_grain_params(p: &[u8; 168], inter: bool, format: u8, dst: &mut [u8]) -> Written
-    ensures { (result, dst.new) ≡ write_outcome (stored p.now) inter format dst.old }
-{
-    write(p, inter, format, dst).into()
 }

@@ -1,5 +1,5 @@
 // Question 10: every field, and every place of an array, is as the syntax and its semantics let it be.
-ghost use Rattle.std.specs.Prelude.{◌≡◌, ◌+◌, ◌-◌, ◌&&◌, ◌||◌, ℕ, ◌↔◌, IsTrue, cond, eqb, length};
+ghost use Rattle.std.specs.Prelude.{◌≡◌, ◌&&◌, ℕ, ◌↔◌, IsTrue, cond, eqb, length};
 ghost use Rattle.std.specs.List.{All};
 ghost use Rattle.header.specs.Row.{allowed};
 ghost use Rattle.header.specs.Text.{points, coeffs, yuv420, chroma_point_limit, opening, luma_part, chroma_part, filter_part, closing, rest, uncoded, rows};
@@ -15,7 +15,7 @@ use crate::stored::{
     CB_COEFFS, CB_POINTS, CR_COEFFS, CR_POINTS, Points, Y_COEFFS, Y_POINTS, parted,
 };
 
-// Within its limits where it is present, 0 where it is skipped.
+// Within its limits where it is present, 0 where it is skipped: `present` is the table's condition of the row, here and in a plane's mix, a fact about the header and no step.
 fn is_allowed(present: bool, least: u32, most: u32, stored: u32) -> bool
     ensures { result ≡ allowed present least most stored }
 {
@@ -38,7 +38,7 @@ fn are_zero(bytes: &[u8]) -> bool
     bytes.iter().fold(0, |any, byte| any | byte) == 0
 }
 
-// A plane's multipliers and offset.
+// A plane's multipliers and offset. A struct of the three would be no plainer: the record has them as fields, and so has the table, a row for each.
 fn is_mix_allowed(present: bool, mult: u8, luma_mult: u8, offset: u16) -> bool
     ensures { result ≡ (allowed present 0 255 mult && (allowed present 0 255 luma_mult && allowed present 0 511 offset)) }
 {

@@ -27,9 +27,7 @@ impl Header<'_> {
             return opening;
         }
         let c = self.counts;
-        let fields = kept(c.coded, 14)
-            + kept(c.coded & (self.format != Format::Monochrome), 1)
-            + kept(c.chroma, 8);
+        let fields = 14 + kept(self.format != Format::Monochrome, 1) + kept(c.chroma, 8);
         let points = c.y_points.min(14) + c.cb_points.min(10) + c.cr_points.min(10);
         let coeffs = c.y_coeffs.min(24) + c.cb_coeffs.min(25) + c.cr_coeffs.min(25);
         let mixes = kept(0 < c.cb_points, 25) + kept(0 < c.cr_points, 25);

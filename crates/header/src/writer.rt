@@ -1,5 +1,5 @@
 // The fields' bits in stream order.
-ghost use Rattle.std.specs.Prelude.{◌≡◌, cond, ◌+◌, ◌*◌, ◌^◌, ◌<◌, length};
+ghost use Rattle.std.specs.Prelude.{◌≡◌, length};
 ghost use Rattle.header.specs.Text.{points, coeffs, opening, luma_part, chroma_part, filter_part, closing, rest, rows};
 ghost use Rattle.header.specs.Stored.{stored};
 ghost use Rattle.header.specs.Scalars.{scalars};
@@ -18,8 +18,7 @@ impl BitWriter<'_> {
 
     // A plane's points, value and scaling in turn.
     fn put_points(&mut self, n: usize, list: &Points<'_>)
-        requires { self.old.cursor.at + 2 * length list.now.values.now < 2 ^ 32 }
-        ensures { Puts (bits_of (points (length list.now.values.now) n list.now.values.now list.now.scalings.now)) (2 * length list.now.values.now) self.old self.new }
+        ensures { Puts (bits_of (points (length list.now.values.now) n list.now.values.now list.now.scalings.now)) self.old self.new }
     {
         let (values, _) = parted(list.values, n);
         let (scalings, _) = parted(list.scalings, n);
@@ -31,8 +30,7 @@ impl BitWriter<'_> {
 
     // A plane's coefficients.
     fn put_coeffs(&mut self, n: usize, values: &[u8])
-        requires { self.old.cursor.at + length values.now < 2 ^ 32 }
-        ensures { Puts (bits_of (coeffs (length values.now) n values.now)) (length values.now) self.old self.new }
+        ensures { Puts (bits_of (coeffs (length values.now) n values.now)) self.old self.new }
     {
         let (first, _) = parted(values, n);
         for value in first {
@@ -40,10 +38,9 @@ impl BitWriter<'_> {
         }
     }
 
-    // A plane's multipliers and offset.
+    // A plane's multipliers and offset. `present` is the table's condition of their rows, a fact about the header and no step.
     fn put_mix(&mut self, present: bool, mult: u8, luma_mult: u8, offset: u16)
-        requires { self.old.cursor.at + 4 < 2 ^ 32 }
-        ensures { Puts (mix_bits present mult luma_mult offset) 4 self.old self.new }
+        ensures { Puts (mix_bits present mult luma_mult offset) self.old self.new }
     {
         self.put_field(present, 8, u32::from(mult));
         self.put_field(present, 8, u32::from(luma_mult));
@@ -56,8 +53,7 @@ impl Header<'_> {
     ghost use Rattle.header.specs.Held.{Puts};
 
     fn put_opening(&self, w: &mut BitWriter<'_>)
-        requires { w.old.cursor.at + 5 < 2 ^ 32 }
-        ensures { Puts (bits_of (opening (scalars self.now.fields) self.now.inter)) 5 w.old w.new }
+        ensures { Puts (bits_of (opening (scalars self.now.fields) self.now.inter)) w.old w.new }
     {
         let f = self.fields;
         w.put(1, u32::from(f.apply_grain));
@@ -71,8 +67,7 @@ impl Header<'_> {
     }
 
     fn put_luma(&self, w: &mut BitWriter<'_>)
-        requires { w.old.cursor.at + 29 < 2 ^ 32 }
-        ensures { Puts (bits_of (luma_part (params self.now) self.now.counts)) 29 w.old w.new }
+        ensures { Puts (bits_of (luma_part (params self.now) self.now.counts)) w.old w.new }
     {
         let c = self.counts;
         w.put_field(c.coded, 4, u32::from(self.fields.num_y_points));
@@ -80,8 +75,7 @@ impl Header<'_> {
     }
 
     fn put_chroma(&self, w: &mut BitWriter<'_>)
-        requires { w.old.cursor.at + 43 < 2 ^ 32 }
-        ensures { Puts (bits_of (chroma_part (params self.now) (format_number self.now.format) self.now.counts)) 43 w.old w.new }
+        ensures { Puts (bits_of (chroma_part (params self.now) (format_number self.now.format) self.now.counts)) w.old w.new }
     {
         let f = self.fields;
         let c = self.counts;
@@ -97,8 +91,7 @@ impl Header<'_> {
     }
 
     fn put_filter(&self, w: &mut BitWriter<'_>)
-        requires { w.old.cursor.at + 76 < 2 ^ 32 }
-        ensures { Puts (bits_of (filter_part (params self.now) self.now.counts)) 76 w.old w.new }
+        ensures { Puts (bits_of (filter_part (params self.now) self.now.counts)) w.old w.new }
     {
         let f = self.fields;
         let c = self.counts;
@@ -110,8 +103,7 @@ impl Header<'_> {
     }
 
     fn put_closing(&self, w: &mut BitWriter<'_>)
-        requires { w.old.cursor.at + 12 < 2 ^ 32 }
-        ensures { Puts (bits_of (closing (scalars self.now.fields) self.now.counts)) 12 w.old w.new }
+        ensures { Puts (bits_of (closing (scalars self.now.fields) self.now.counts)) w.old w.new }
     {
         let f = self.fields;
         let c = self.counts;
@@ -125,8 +117,7 @@ impl Header<'_> {
 
     // All after the slot.
     fn put_rest(&self, w: &mut BitWriter<'_>)
-        requires { w.old.cursor.at + 160 < 2 ^ 32 }
-        ensures { Puts (bits_of (rest (params self.now) (format_number self.now.format) self.now.counts)) 160 w.old w.new }
+        ensures { Puts (bits_of (rest (params self.now) (format_number self.now.format) self.now.counts)) w.old w.new }
     {
         if !self.counts.coded {
             return;

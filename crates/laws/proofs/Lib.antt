@@ -1,7 +1,7 @@
-pub mod Order
 pub mod Loop
 pub mod Table
 pub mod Fill
+pub mod Made
 pub mod Parts
 pub mod Whole
 pub mod Totals

@@ -1,4 +1,4 @@
--- The law of sums where loops make the sum: over indexes below n, and over a window or a plane, row after row. Assumes nothing.
+-- The law of sums where loops make the sum: over a window or a plane, row after row. Assumes nothing.
 use mathlib.Core.Path.{◌≡◌, ap, ◌∙◌}
 use mathlib.Core.List.{List}
 use Prim.Native.Nat.{ℕ, ◌-◌, ◌*◌, ◌≤◌, ◌<◌}
@@ -7,16 +7,15 @@ use lib.IntN.{ℤ, nat_abs}
 use lib.ListN.{length}
 use lib.Ieee.{Float, binary64, add}
 use Rattle.laws.specs.Loop.{loop}
-use Rattle.laws.specs.Table.{range}
 use Rattle.laws.specs.Window.{window, at}
 use Rattle.laws.specs.Sums.{sum_to, span}
 use Rattle.laws.specs.Scaled.{plus_zero, of_scaled, Holds}
 use Rattle.laws.specs.Sets.{In, NoDup}
 use Rattle.laws.specs.Law.{Limit, Held, Product, Positions}
 use Rattle.laws.proofs.Sets.{length-within}
-use Rattle.laws.proofs.Sums.{spans-zero, sum-upto}
-use Rattle.laws.proofs.Window.{in-range, range-nodup, length-range, in_window, window-nodup, length-window, sum-window}
-use Rattle.laws.proofs.FloatSums.{loop-sum, loops-sum}
+use Rattle.laws.proofs.Sums.{spans-zero}
+use Rattle.laws.proofs.Window.{in_window, window-nodup, length-window, sum-window}
+use Rattle.laws.proofs.FloatSums.{loops-sum}
 use Rattle.laws.proofs.Law.{law-of-sums}
 
 -- a list is a set of positions in it, and no such set has more of them
@@ -30,19 +29,6 @@ within : {A : Type 0} (all ps : List A) → Positions (Of all) ps → length ps 
 within all ps S = length-within ps all S.once S.exist
 
 module _ (L : Limit) (H : Held L) where
-  pub loop-exact : (n : ℕ) (f : ℕ → Float) (g : ℕ → ℤ) → n ≤ L.count
-      → ((i : ℕ) → i < n → nat_abs (g i) ≤ L.size) → ((i : ℕ) → i < n → Holds L.scale (g i) (f i))
-      → loop 0 n (λ i s. add binary64 s (f i)) plus_zero ≡ of_scaled L.scale (sum_to g n)
-  loop-exact n f g few small holds =
-      loop-sum f 0 n ∙ (law-of-sums L H (Of (range 0 n)) f g product).exact (range 0 n) (whole (range 0 n) (range-nodup 0 n)) ∙ ap (of_scaled L.scale) (sum-upto g n)
-    where
-      product : Product L (Of (range 0 n)) f g
-      product = record {
-        few = λ ps S. le_trans (within (range 0 n) ps S) (le_trans (le_of_eq (length-range 0 n ∙ sub-zero n)) few);
-        small = λ i h. small i (in-range 0 n i h).1;
-        holds = λ i h. holds i (in-range 0 n i h).1;
-      }
-
   pub window-exact : (a b c d : ℕ) (f : ℕ → ℕ → Float) (g : ℕ → ℕ → ℤ) → (b - a) * (d - c) ≤ L.count
       → ((r q : ℕ) → a ≤ r → r < b → c ≤ q → q < d → nat_abs (g r q) ≤ L.size)
       → ((r q : ℕ) → a ≤ r → r < b → c ≤ q → q < d → Holds L.scale (g r q) (f r q))

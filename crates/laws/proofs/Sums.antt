@@ -5,13 +5,13 @@ use mathlib.Core.Logic.{⊎_elim}
 use Prim.Native.Nat.{ℕ, zero, suc, ◌+◌, ◌-◌, ◌*◌, ◌≤◌, ◌<◌, zero-le}
 use native.Mathlib.Nat.{not-suc-le-zero, le_of_suc-le-suc, eq-or-lt_of_le, le_step, le_trans, le_of_eq, lt-suc_self, zero-add, add_comm, sub-zero, add-le-add, suc-mul}
 use native.Mathlib.Omega.{arith}
-use lib.IntN.{ℤ, pos, negsuc, neg_ℤ, nat_abs, ◌+ℤ◌, ◌-ℤ◌, ◌*ℤ◌, +ℤ_idl, +ℤ_idr, +ℤ_assoc, +ℤ_comm, +ℤ-neg_ℤ_cancel, *ℤ-zero, zero-*ℤ}
+use lib.IntN.{ℤ, pos, negsuc, neg_ℤ, nat_abs, ◌+ℤ◌, ◌-ℤ◌, ◌*ℤ◌, +ℤ_idl, +ℤ_idr, +ℤ_assoc, +ℤ_comm, +ℤ-neg_ℤ_cancel, zero-*ℤ}
 use lib.Signed.{◌≤ℤ◌, ≤ℤ_refl}
 use Rattle.laws.specs.Sums.{total, sum_to, span, sum_z}
 use Rattle.laws.specs.Table.{tabulate, range}
 use Rattle.laws.proofs.Table.{map-tabulate}
 use Rattle.laws.proofs.Totals.{total-more, total_ext, total-split, total-add, total-rows}
-use Rattle.laws.proofs.Whole.{abs-add, add-nonneg, swap-middle, mul-sum, sum-mul}
+use Rattle.laws.proofs.Whole.{abs-add, add-nonneg, swap-middle, sum-mul}
 
 pub sum_more : (g : ℕ → ℤ) (n : ℕ) → sum_to g n +ℤ g n ≡ sum_to g (n + 1)
 sum_more g n = total-more ◌+ℤ◌ (pos 0) g n
@@ -51,11 +51,6 @@ pub sum-add : (f g : ℕ → ℤ) (n : ℕ) → sum_to (λ i. f i +ℤ g i) n �
 sum-add f g n = total-add ◌+ℤ◌ (pos 0) refl swap-middle f g n
 
 -- a factor of every term
-pub sum-factor-left : (c : ℤ) (g : ℕ → ℤ) (n : ℕ) → sum_to (λ i. c *ℤ g i) n ≡ c *ℤ sum_to g n
-unfolding total
-sum-factor-left c g zero = sym (*ℤ-zero c)
-sum-factor-left c g (suc n) = ap (λ (z : ℤ). z +ℤ c *ℤ g n) (sum-factor-left c g n) ∙ sym (mul-sum c (sum_to g n) (g n))
-
 pub sum-factor-right : (g : ℕ → ℤ) (c : ℤ) (n : ℕ) → sum_to (λ i. g i *ℤ c) n ≡ sum_to g n *ℤ c
 unfolding total
 sum-factor-right g c zero = sym (zero-*ℤ c)
@@ -114,7 +109,3 @@ sum-list g (suc n) = (λ i. sum-list g n i +ℤ sym (+ℤ_idr (g n)) i) ∙ sym 
 
 pub sum-range : (g : ℕ → ℤ) (a b : ℕ) → sum_z (map g (range a b)) ≡ span g a (b - a)
 sum-range g a b = ap sum_z (map-tabulate g (b - a) (λ i. a + i)) ∙ sym (sum-list (λ i. g (a + i)) (b - a))
-
-pub sum-upto : (g : ℕ → ℤ) (n : ℕ) → sum_z (map g (range 0 n)) ≡ sum_to g n
-sum-upto g n =
-    sum-range g 0 n ∙ ap (λ (m : ℕ). span g 0 m) (sub-zero n) ∙ span-zero g n

@@ -1,6 +1,6 @@
 -- Sums of natural numbers: those of any total, size, a sum of 0, and the same over ℤ. Each by induction on the number of terms. Assumes nothing.
 use mathlib.Core.Path.{◌≡◌, refl, ap}
-use Prim.Native.Nat.{ℕ, zero, suc, ◌+◌, ◌-◌, ◌*◌, ◌≤◌, ◌<◌, zero-le}
+use Prim.Native.Nat.{ℕ, zero, suc, ◌+◌, ◌*◌, ◌≤◌, ◌<◌, zero-le}
 use native.Mathlib.Nat.{le_step, lt-suc_self, add-zero, add_assoc}
 use native.Mathlib.Omega.{arith}
 use lib.IntN.{ℤ, pos, ◌+ℤ◌}
@@ -18,9 +18,6 @@ sum-split f a n = total-split ◌+◌ 0 add_assoc add-zero f a n
 
 swapped : (x y z u : ℕ) → x + y + (z + u) ≡ x + z + (y + u)
 swapped x y z u = omega arith
-
-pub sum_mono : (f : ℕ → ℕ) (k n : ℕ) → k ≤ n → sum_n f k ≤ sum_n f n
-sum_mono f k n h = let e : k + (n - k) ≡ n = omega arith in omega (arith, rw e at (sum-split f k (n - k)))
 
 -- terms of at most c times others
 pub sum-le : (c : ℕ) (f g : ℕ → ℕ) (n : ℕ) → ((i : ℕ) → i < n → f i ≤ c * g i) → sum_n f n ≤ c * sum_n g n

@@ -9,7 +9,7 @@ pub mod Steps
 pub mod FitWindow
 pub mod Divided
 pub mod Lines
-pub mod Shift
+pub mod Shifted
 pub mod BlockSums
 pub mod LineSums
 pub mod NoiseSums
@@ -20,6 +20,7 @@ pub mod RowSums
 pub mod SeenCalls
 pub mod Cropped
 pub mod Quarters
+pub mod FillPart
 pub mod Averages
 pub mod Over
 pub mod Accepted

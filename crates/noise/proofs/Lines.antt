@@ -1,8 +1,7 @@
 -- A line of noise: its places lie in both planes, and the noise of low samples is small. Assumes nothing.
 use mathlib.Core.List.{List}
-use Prim.Native.Nat.{ℕ, ◌+◌, ◌*◌, ◌^◌, ◌≤◌, ◌<◌}
+use Prim.Native.Nat.{ℕ, ◌+◌, ◌*◌, ◌≤◌, ◌<◌}
 use native.Mathlib.Nat.{le_of_eq, le_of_suc-le-suc, lt_of_lt_of_le}
-use lib.Dec.{lit≤}
 use lib.IntN.{nat_abs}
 use Rattle.laws.specs.Limits.{sample_limit}
 use Rattle.laws.proofs.Whole.{abs_diff}
@@ -21,16 +20,5 @@ pub noise-small : (source denoised : List ℕ) (k : ℕ) → LowAt sample_limit 
 noise-small source denoised k L = le_of_suc-le-suc (abs_diff _ _ sample_limit L.source-low L.denoised-low)
 
 module _ {source denoised : List ℕ} {start stride n : ℕ} (P : Places sample_limit source denoised start stride n) where
-  -- the machine subtracts them
-  pub looser : Places (2 ^ 15) source denoised start stride n
-  looser =
-      record {
-        same = P.same;
-        begins = P.begins;
-        inside = P.inside;
-        source-low = λ i l. lt_of_lt_of_le (P.source-low i l) (lit≤ tt);
-        denoised-low = λ i l. lt_of_lt_of_le (P.denoised-low i l) (lit≤ tt);
-      }
-
   pub noise-le : (i : ℕ) → i < n → nat_abs (noise source denoised (start + i * stride)) ≤ noise_limit
   noise-le i l = noise-small source denoised (start + i * stride) (low-at P l)

@@ -2,7 +2,7 @@
 use mathlib.Core.Path.{◌≡◌, sym, ap, ◌∙◌}
 use mathlib.Core.List.{List}
 use Prim.Native.Nat.{ℕ, ◌+◌, ◌-◌, ◌*◌, ◌/◌, ◌^◌, ◌≤◌, ◌<◌}
-use native.Mathlib.Nat.{le_trans, le_of_eq, lt_of_le_of_lt, lt_of_lt_of_le, add_comm, mul-le-mul_left, div-one}
+use native.Mathlib.Nat.{le_trans, le_of_eq, lt_of_le_of_lt, lt_of_lt_of_le, add_comm, mul-le-mul_left}
 use native.Mathlib.Omega.{arith}
 use lib.Dec.{lit≤, lit<}
 use lib.IntN.{ℤ, pos, negsuc, nat_abs, ◌*ℤ◌}
@@ -90,15 +90,6 @@ module _ {line : List ℤ} (L : NoiseLine line) {lag : ℕ} (l : lag ≤ length 
 pub shifted-le : (shift : ℕ) (z : ℤ) → nat_abs z ≤ noise_limit → nat_abs (shifted shift z) ≤ sample_limit
 shifted-le shift (pos n) h = le_trans (mag_shr (pos n) (2 ^ shift)) (le_trans h (lit≤ tt))
 shifted-le shift (negsuc n) h = let d : n / 2 ^ shift ≤ n = mag_shr (negsuc n) (2 ^ shift) in omega arith
-
-shifted_none : (z : ℤ) → shifted 0 z ≡ z
-shifted_none (pos n) = ap pos (div-one n)
-shifted_none (negsuc n) = ap negsuc (div-one n)
-
--- by nothing
-pub unshifted : (line : List ℤ) {shift : ℕ} → shift ≡ 0 → sum_to (product line line) (length line) ≡ sum_to (λ i. squared shift (at line i)) (length line)
-unshifted line {shift} e =
-    rw e (sum-ext (product line line) (λ i. squared 0 (at line i)) (length line) (λ i l j. sym (shifted_none (at line i)) j *ℤ sym (shifted_none (at line i)) j))
 
 module _ {line : List ℤ} (L : NoiseLine line) (shift : ℕ) {n : ℕ} (same : n ≡ length line) {out : List ℤ} (e : out ≡ tabulate n (λ i. shifted shift (at line i))) where
   abbrev moved : ℕ → ℤ

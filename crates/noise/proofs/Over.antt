@@ -1,4 +1,4 @@
--- Chroma over luma: a row of averages, the size of each, the average at every place of a chroma plane, and what a fit's factors are limited by. Every frame that has a shape lies so. By the two cases of each direction, and by the formats. Assumes nothing.
+-- Chroma over luma: the size of an average, one at every place of a chroma plane, and what a fit's factors are limited by. Every frame that has a shape lies so. By the two cases of each direction, and by the formats. Assumes nothing.
 use mathlib.Core.Path.{◌≡◌, refl, sym, ◌∙◌}
 use mathlib.Core.Bool.{Bool, true, false, cond}
 use mathlib.Core.List.{List}
@@ -18,7 +18,6 @@ use Rattle.frame.specs.declared.view.Geometry.{Geometry}
 use Rattle.noise.specs.Lines.{noise_limit}
 use Rattle.noise.specs.Seen.{seen, Seen, Over}
 use Rattle.noise.specs.Average.{luma_seen, quarters}
-use Rattle.noise.specs.Quarters.{AverageRow}
 use Rattle.noise.specs.Products.{average, Exists}
 use Rattle.noise.specs.Claim.{Samples, Limited}
 use Rattle.noise.specs.Steps.{InFit, tap}
@@ -41,16 +40,6 @@ module _ {g : Geometry} (O : Over g) where
 
   pub tap-over : (y y-denoised c c-denoised : List ℕ) (lag : ℕ) → InFit (seen g.chroma c c-denoised) lag (average (luma_seen g y y-denoised))
   tap-over y y-denoised c c-denoised lag = tap (luma_seen g y y-denoised) (average-exists y y-denoised)
-
-  -- for `average_line`
-  pub average-row : {r sums line : ℕ} → r < g.chroma.height → sums ≡ g.luma.width → line ≡ g.chroma.width → AverageRow g.luma g.sampling r sums line
-  average-row {r} l e d = record {
-    across = O.across;
-    down = O.down;
-    row = O.rows r l;
-    sums-length = e;
-    line-length = d ∙ O.columns (omega arith);
-  }
 
   module _ {y y-denoised : List ℕ} (S : Seen g.luma y y-denoised) where
     pub luma-limited : Limited plane_limit sample_limit (average (luma_seen g y y-denoised))

@@ -1,5 +1,5 @@
 // The noise of two luma rows, added column by column: four times the averages, once the columns are added too.
-ghost use Rattle.std.specs.Prelude.{◌≡◌, ◌+◌, ◌*◌, ◌/◌, ◌≤◌, length, take};
+ghost use Rattle.std.specs.Prelude.{◌≡◌, ◌+◌, ◌*◌, ◌/◌, ◌≤◌, length};
 ghost use Rattle.laws.specs.Table.{tabulate};
 ghost use Rattle.frame.specs.Size.{sampled};
 ghost use Rattle.noise.specs.Lines.{AtMost, noise_limit};
@@ -24,15 +24,14 @@ impl ColumnSums<'_> {
         }
     }
 
-    // line[k] = sums[2k] + sums[2k + 1], at n places from `from` on; those before it are filled. (By index, one for both: a slice of the line would need one of the sums, with their bound again.)
-    fn halved_part(self, from: usize, n: usize, line: &mut [i16])
-        requires paired { from + n ≤ length self.sums.now / 2 }
-        requires fits { from + n ≤ length line.old }
-        requires filled { take from line.old ≡ tabulate from (quartered 1 self.sums.now) }
-        ensures { take (from + n) line.new ≡ tabulate (from + n) (quartered 1 self.entry.sums.now) }
+    // part[k] = sums[2c] + sums[2c + 1], c = from + k: part of a line, from place `from` on.
+    fn halved_part(self, from: usize, part: &mut [i16])
+        requires { from + length part.old ≤ length self.sums.now / 2 }
+        ensures { part.new ≡ tabulate (length part.old) (λ k. quartered 1 self.entry.sums.now (from + k)) }
     {
-        for k in from..from + n {
-            line[k] = self.sums[k * 2] + self.sums[k * 2 + 1];
+        for (k, quarters) in part.iter_mut().enumerate() {
+            let c = (from + k) * 2;
+            *quarters = self.sums[c] + self.sums[c + 1];
         }
     }
 
@@ -43,10 +42,13 @@ impl ColumnSums<'_> {
     {
         let pairs = self.sums.len() / 2;
         let parts = pairs / 16;
+        // By index. Tried: `line[..parts * 16].chunks_exact_mut(16).enumerate()`, after which a proof knows no number that was written.
         for part in 0..parts {
-            self.halved_part(part * 16, 16, line);
+            let from = part * 16;
+            self.halved_part(from, &mut line[from..from + 16]);
         }
-        self.halved_part(parts * 16, pairs % 16, line);
+        let from = parts * 16;
+        self.halved_part(from, &mut line[from..pairs]);
         if pairs < line.len() {
             let a = self.sums[self.sums.len() - 1];
             line[pairs] = a + a;

@@ -11,3 +11,14 @@ pub struct PlanePair<'a> {
     pub view: View,
     ghost seen: { Seen view source.now denoised.now },
 }
+
+impl PlanePair<'_> {
+    ghost use Rattle.std.specs.Prelude.{◌≡◌, ◌*◌};
+
+    // How many samples the view shows of each.
+    pub fn samples(&self) -> usize
+        ensures { result ≡ self.now.view.width * self.now.view.height }
+    {
+        self.view.width * self.view.height
+    }
+}

@@ -1,13 +1,13 @@
 // Sums over two planes of noise: of the second's squares, and of products of both.
-ghost use Rattle.std.specs.Prelude.{◌≡◌, ◌<◌, length};
+ghost use Rattle.std.specs.Prelude.{◌≡◌, ◌<◌};
 ghost use Rattle.noise.specs.Noise.{noise_of};
-ghost use Rattle.noise.specs.PlanePair.{shown, noise_in, SameSize};
+ghost use Rattle.noise.specs.PlanePair.{shown, noise_in};
 ghost use Rattle.noise.specs.Seen.{RowCross, CrossOf};
 ghost use Rattle.noise.specs.Rows.{pair_plus, PairHeld};
 
 use crate::blocks::{NOISE_BLOCK, dot};
-use crate::line::{blank_line, noise_row};
-use crate::plane_pair::PlanePair;
+use crate::line::{Line, blank_line, noise_row};
+use crate::two_frames::TwoFrames;
 
 // Of two noises n₀ and n₁: Σ n₁² and Σ n₀ × n₁.
 #[derive(Clone, Copy, Default)]
@@ -16,22 +16,16 @@ pub struct PairSums {
     pub cross: i64,
 }
 
-// The sums of row r of both. Its noises are p and q.
-fn row_pair(
-    first: &PlanePair,
-    second: &PlanePair,
-    r: usize,
-    p: &mut [i16],
-    q: &mut [i16],
-) -> PairSums
-    requires sizes { SameSize first.now.view second.now.view }
-    requires shown { r < first.now.view.height }
-    requires p_fits { length p.old ≡ first.now.view.width }
-    requires q_fits { length q.old ≡ first.now.view.width }
-    ensures { RowCross (noise_in first.now r) (noise_in second.now r) first.now.view.width result }
+// The sums of row r of both. Its noises are at the heads of p and q, whole lines that are cut here: there is no heap.
+fn row_pair(frames: &TwoFrames, r: usize, p: &mut Line, q: &mut Line) -> PairSums
+    requires { r < frames.now.first.view.height }
+    ensures { RowCross (noise_in frames.now.first r) (noise_in frames.now.second r) frames.now.first.view.width result }
 {
-    noise_row(first, r, p);
-    noise_row(second, r, q);
+    let w = frames.first.view.width;
+    let p = &mut p[..w];
+    let q = &mut q[..w];
+    noise_row(&frames.first, r, p);
+    noise_row(&frames.second, r, q);
     let line = &q[..];
     let second = dot::<NOISE_BLOCK>(line, line);
     let cross = dot::<NOISE_BLOCK>(p, line);
@@ -49,19 +43,16 @@ fn pair_plus(a: PairSums, b: PairSums) -> PairSums
     }
 }
 
-// The sums over what is shown of two planes, which are of one size there, row by row.
-pub fn pair_sums(first: &PlanePair, second: &PlanePair) -> PairSums
-    requires { SameSize first.now.view second.now.view }
-    ensures { CrossOf (noise_of (shown first.now)) (noise_of (shown second.now)) first.now.view.height first.now.view.width result }
+// The sums over what is shown of both, row by row.
+pub fn pair_sums(frames: &TwoFrames) -> PairSums
+    ensures { CrossOf (noise_of (shown frames.now.first)) (noise_of (shown frames.now.second)) frames.now.first.view.height frames.now.first.view.width result }
 {
     let mut p = blank_line();
     let mut q = blank_line();
-    let w = first.view.width;
-    let p = &mut p[..w];
-    let q = &mut q[..w];
     let mut total = PairSums::default();
-    for r in 0..first.view.height {
-        total = pair_plus(total, row_pair(first, second, r, p, q));
+    // By row number, of which each view makes the places. A `fold` was tried: its closure must say in clauses what the invariant says of the rows passed.
+    for r in 0..frames.first.view.height {
+        total = pair_plus(total, row_pair(frames, r, &mut p, &mut q));
     }
     total
 }

@@ -8,8 +8,9 @@ ghost use Rattle.noise.specs.Seen.{squared, RowSums, SumsOf};
 ghost use Rattle.noise.specs.Rows.{plane_plus, PlaneHeld};
 
 use crate::blocks::{NOISE_BLOCK, dot};
-use crate::line::{blank_line, noise_row, shifted_line};
+use crate::line::{Line, blank_line, noise_row, shifted_line};
 use crate::plane_pair::PlanePair;
+use crate::shift::Shift;
 
 // Of a noise n: Σ (n >> shift)², Σ n² and Σ n × the noise `lag` columns on.
 #[derive(Clone, Copy, Default)]
@@ -19,48 +20,47 @@ pub struct PlaneSums {
     pub lagged: i64,
 }
 
-// line[0] × line[lag] + line[1] × line[lag + 1] + ..
+// line[0] × line[lag] + line[1] × line[lag + 1] + .., none where the lag is past the line's end.
 fn lagged_dot(line: &[i16], lag: usize) -> i64
-    requires noise { NoiseLine line.now }
-    requires lag { lag ≤ length line.now }
+    requires { NoiseLine line.now }
     ensures { result ≡ sum_to (λ i. at line.now i *ℤ at line.now (i + lag)) (length line.now - lag) }
 {
+    if line.len() < lag {
+        return 0;
+    }
     let n = line.len() - lag;
     dot::<NOISE_BLOCK>(&line[..n], &line[lag..])
 }
 
-// (line[0] >> shift)² + (line[1] >> shift)² + .., which is the energy where nothing is shifted. The shifted line is out.
-fn shifted_energy(line: &[i16], shift: u32, energy: i64, out: &mut [i16]) -> i64
+// (line[0] >> shift)² + (line[1] >> shift)² + .., which is the energy where nothing is shifted. The shifted line is at the head of out.
+fn shifted_energy(line: &[i16], shift: Shift, energy: i64, out: &mut Line) -> i64
     requires noise { NoiseLine line.now }
-    requires shift { shift < 16 }
-    requires fits { length out.old ≡ length line.now }
     requires energy { energy ≡ sum_to (product line.now line.now) (length line.now) }
-    ensures { result ≡ sum_to (λ i. squared shift (at line.now i)) (length line.now) }
+    ensures { result ≡ sum_to (λ i. squared shift.bits (at line.now i)) (length line.now) }
 {
-    if shift == 0 {
+    if shift.bits == 0 {
         return energy;
     }
+    let out = &mut out[..line.len()];
     shifted_line(line, shift, out);
     let shifted = &out[..];
     dot::<NOISE_BLOCK>(shifted, shifted)
 }
 
-// The sums of row r. Its noise is p, shifted q.
+// The sums of row r. Its noise is at the head of p, shifted at that of q, whole lines that are cut here: there is no heap.
 fn row_sums(
     pair: &PlanePair,
     r: usize,
     lag: usize,
-    shift: u32,
-    p: &mut [i16],
-    q: &mut [i16],
+    shift: Shift,
+    p: &mut Line,
+    q: &mut Line,
 ) -> PlaneSums
-    requires shown { r < pair.now.view.height }
-    requires p_fits { length p.old ≡ pair.now.view.width }
-    requires q_fits { length q.old ≡ pair.now.view.width }
-    requires lag { lag ≤ pair.now.view.width }
-    requires shift { shift < 16 }
-    ensures { RowSums (noise_in pair.now r) pair.now.view.width lag shift result }
+    requires { r < pair.now.view.height }
+    ensures { RowSums (noise_in pair.now r) pair.now.view.width lag shift.bits result }
 {
+    let w = pair.view.width;
+    let p = &mut p[..w];
     noise_row(pair, r, p);
     let line = &p[..];
     let energy = dot::<NOISE_BLOCK>(line, line);
@@ -86,19 +86,15 @@ fn plane_plus(a: PlaneSums, b: PlaneSums) -> PlaneSums
 }
 
 // The sums over what is shown of a plane, row by row.
-pub fn plane_sums(pair: &PlanePair, lag: usize, shift: u32) -> PlaneSums
-    requires lag { lag ≤ pair.now.view.width }
-    requires shift { shift < 16 }
-    ensures { SumsOf (noise_of (shown pair.now)) pair.now.view.height pair.now.view.width lag shift result }
+pub fn plane_sums(pair: &PlanePair, lag: usize, shift: Shift) -> PlaneSums
+    ensures { SumsOf (noise_of (shown pair.now)) pair.now.view.height pair.now.view.width lag shift.bits result }
 {
     let mut p = blank_line();
     let mut q = blank_line();
-    let w = pair.view.width;
-    let p = &mut p[..w];
-    let q = &mut q[..w];
     let mut total = PlaneSums::default();
+    // By row number, of which the view makes the places. A `fold` was tried: its closure must say in clauses what the invariant says of the rows passed.
     for r in 0..pair.view.height {
-        total = plane_plus(total, row_sums(pair, r, lag, shift, p, q));
+        total = plane_plus(total, row_sums(pair, r, lag, shift, &mut p, &mut q));
     }
     total
 }

@@ -27,7 +27,7 @@ pub averages-small : {g : Geometry} {source denoised : List ℕ} → Over g → 
 averages-small O S l e = at_most _ average_limit _ e (average-le O S l)
 
 module _ {g : Geometry} {source denoised : List ℕ} (O : Over g) (S : Seen g.luma source denoised) (few : g.chroma.width ≤ side_limit)
-    {r lag sums averages : ℕ} (A : AverageRoom g r lag sums averages) where
+    {r averages : ℕ} (A : AverageRoom g r averages) where
   abbrev average : ℕ → ℤ
   average = quarters (luma_seen g source denoised) r
 
@@ -35,7 +35,7 @@ module _ {g : Geometry} {source denoised : List ℕ} (O : Over g) (S : Seen g.lu
   pub averages-are : {p : List ℤ} → p ≡ tabulate (sampled g.sampling.across g.luma.width) average → p ≡ tabulate g.chroma.width average
   averages-are e = e ∙ ap (λ (m : ℕ). tabulate m average) (sym (O.columns (omega (arith, A.row))))
 
-  module _ {p : List ℤ} (e : p ≡ tabulate g.chroma.width average) where
+  module _ (lag : ℕ) (wide : 2 * lag ≤ g.chroma.width) {p : List ℤ} (e : p ≡ tabulate g.chroma.width average) where
     abbrev n : ℕ
     n = g.chroma.width - 2 * lag
 
@@ -44,7 +44,7 @@ module _ {g : Geometry} {source denoised : List ℕ} (O : Over g) (S : Seen g.lu
     middle = take (length p - lag - lag) (drop lag p)
 
     long : lag + n ≤ length p
-    long = omega (arith, size g.chroma.width average e, A.columns)
+    long = omega (arith, size g.chroma.width average e, wide)
 
     overlap : Overlap average_limit average_limit p p n lag lag
     overlap =
@@ -69,4 +69,4 @@ module _ {g : Geometry} {source denoised : List ℕ} (O : Over g) (S : Seen g.lu
         ∙ start-ext (at p) (at p) n lag lag average average one one
       where
         one : (x : ℕ) → x < n → at p (lag + x) ≡ average (lag + x)
-        one x k = entry g.chroma.width average e (lag + x) (omega (arith, A.columns))
+        one x k = entry g.chroma.width average e (lag + x) (omega (arith, wide))

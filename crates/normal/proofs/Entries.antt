@@ -8,7 +8,7 @@ use native.Mathlib.Omega.{arith}
 use lib.Arith.{digits_div, digits_mod}
 use lib.IntN.{ℤ}
 use Rattle.laws.specs.Sums.{sum_to}
-use Rattle.laws.proofs.Order.{lt-or-ge}
+use Rattle.std.proofs.lemmas.Bool.{cases_lt}
 use Rattle.frame.specs.declared.view.View.{View}
 use Rattle.noise.specs.Noise.{noise_of}
 use Rattle.noise.specs.Seen.{Seen, seen, noise_at}
@@ -19,7 +19,8 @@ use Rattle.normal.specs.Normal.{Picture, neighbour, entry}
 use Rattle.normal.specs.Layout.{ordered_at, sum_at}
 use Rattle.normal.specs.Calls.{Window, NeighbourSums}
 use Rattle.normal.specs.Starts.{start_sum}
-use Rattle.normal.specs.Rows.{Plot, StartSums, pair_sum}
+use Rattle.normal.proofs.RowLines.{Plot}
+use Rattle.normal.proofs.Held.{StartSums, pair_sum}
 use Rattle.normal.proofs.Ordered.{rows-order, row_in, place_in, side-some}
 use Rattle.normal.proofs.Windows.{window-swap, window-starts, window-ext, neighbour-row, neighbour-column, InWindow}
 
@@ -44,7 +45,7 @@ module _ (f : Picture) (w h lag : ℕ) {sums : List ℤ} (S : StartSums f (w - 2
       (λ y x t. f (back lag y (i / s) t) (back lag x (i % s) t)) (λ y x t. f (back lag y (j / s) t) (back lag x (j % s) t))
 
   any_entry : (i j : ℕ) → i < factors lag → j < factors lag → sum_at sums lag i j ≡ entry f w h lag i j
-  any_entry i j li lj = ⊎_elim later earlier (lt-or-ge j i)
+  any_entry i j li lj = ⊎_elim later earlier (cases_lt j i)
     where
       earlier : i ≤ j → sum_at sums lag i j ≡ entry f w h lag i j
       earlier o = (λ t. ordered_at sums lag (min-eq_left o t) (max-eq_right o t)) ∙ ordered-entry i j o (lt_of_lt_of_le lj (factors-le lag))

@@ -9,10 +9,10 @@ use lib.Arith.{digits_lt, digits_div, digits_mod}
 use lib.Dec.{lit<}
 use lib.IntN.{ℤ, pos, nat_abs, ◌+ℤ◌, +ℤ_idr}
 use lib.ListN.{length}
-use Rattle.laws.specs.Sums.{total}
+use Rattle.laws.specs.Sums.{total, sum_to}
 use Rattle.laws.proofs.Sums.{sum_more, sum_bound}
 use Rattle.laws.proofs.Whole.{abs-add}
-use Rattle.laws.proofs.Order.{lt-or-ge}
+use Rattle.std.proofs.lemmas.Bool.{cases_lt}
 use Rattle.laws.specs.Limits.{side_limit}
 use Rattle.frame.specs.declared.view.View.{View}
 use Rattle.noise.specs.Lines.{noise_limit}
@@ -20,11 +20,23 @@ use Rattle.noise.specs.Seen.{noise_at}
 use Rattle.normal.specs.Normal.{Picture}
 use Rattle.normal.specs.Layout.{block_at}
 use Rattle.normal.specs.Starts.{start_sum, by_blocks}
-use Rattle.normal.specs.Blocks.{Zeros, if_passed, Room, Added}
-use Rattle.normal.specs.Rows.{Plot, RowTables, StartSums, pair_sum}
+use Rattle.normal.specs.Blocks.{if_passed, Room, Added}
+use Rattle.normal.specs.Rows.{RowTables}
 use Rattle.normal.proofs.Places.{quotient, remainder}
 use Rattle.normal.proofs.Passing.{passed-before, passed-after, passed-now}
-use Rattle.normal.proofs.RowLines.{rows_bound}
+use Rattle.normal.proofs.RowLines.{Plot, rows_bound}
+use Rattle.normal.proofs.Sizes.{Zeros}
+
+-- over m pairs of rows, `apart` from one another, the first of which has row `above`
+unfoldable pub pair_sum : Picture → ℕ → ℕ → ℕ → ℕ → ℕ → ℕ → ℤ
+unfolding total
+pair_sum f n side apart above m c = sum_to (λ y. by_blocks side (start_sum (f (above + y)) (f (above + apart + y)) n) c) m
+
+-- over `rows` pairs, in blocks: for every two of `starts` start rows, the lower of which is one of them
+pub record StartSums (f : Picture) (n side starts rows : ℕ) (sums : List ℤ) : Type 0 where
+  pub size : length sums ≡ starts * starts * (side * side)
+  pub there : (apart above c : ℕ) → apart + above < starts → c < side * side
+      → block_at sums (side * side) (apart * starts + above) c ≡ pair_sum f n side apart above rows c
 
 -- before row r: a pair of rows whose lower row starts at `low` has passed r - low times, and at most `rows` times
 pub record Held (f : Picture) (n side starts rows r : ℕ) (sums : List ℤ) : Type 0 where
@@ -87,7 +99,7 @@ module _ (f : Picture) (n side starts rows : ℕ) where
         ∙ ap passed m
 
     pub pair-more : passed (min rows (r - low)) +ℤ if_passed rows r low rows_sum ≡ passed (min rows (r + 1 - low))
-    pair-more = ⊎_elim before (λ h. ⊎_elim (during h) (after h) (lt-or-ge (r - low) rows)) (lt-or-ge r low)
+    pair-more = ⊎_elim before (λ h. ⊎_elim (during h) (after h) (cases_lt (r - low) rows)) (cases_lt r low)
       where
         before : r < low → passed (min rows (r - low)) +ℤ if_passed rows r low rows_sum ≡ passed (min rows (r + 1 - low))
         before h = let e : r - low ≡ r + 1 - low = omega arith in stays _ _ (ap (min rows) e) (passed-before rows r low rows_sum h)
@@ -118,7 +130,7 @@ module _ (f : Picture) (n side starts rows : ℕ) where
         table : (z c : ℕ) → z < starts * starts → c < k
             → if_passed rows r (z / starts + z % starts) (block_at tables k (z / starts) c)
             ≡ if_passed rows r (z / starts + z % starts) (by_blocks side (start_sum (f (r - z / starts)) (f r) n) c)
-        table z c h l = ⊎_elim (λ b. passed-before _ _ _ _ b ∙ sym (passed-before _ _ _ _ b)) (λ b. ap (if_passed rows r (z / starts + z % starts)) (T.there (z / starts) c (quotient starts z h) (omega arith) l)) (lt-or-ge r (z / starts + z % starts))
+        table z c h l = ⊎_elim (λ b. passed-before _ _ _ _ b ∙ sym (passed-before _ _ _ _ b)) (λ b. ap (if_passed rows r (z / starts + z % starts)) (T.there (z / starts) c (quotient starts z h) (omega arith) l)) (cases_lt r (z / starts + z % starts))
 
 -- ---- sums of noise: they leave room for another row
 module _ {v : View} {source denoised : List ℕ} {n side : ℕ} (P : Plot v source denoised n side) (starts rows r : ℕ) (in_rows : r < v.height) where

@@ -1,9 +1,9 @@
--- Loops that go along a list and leave a number at each place, as their proofs want it: the state at the start, after one place, after a part of the list and at the end. Assumes nothing.
+-- Loops that go along a list and leave a number at each place, as their proofs want it: the state after one place, after a part of the list and at the end. Assumes nothing.
 use mathlib.Core.Path.{◌≡◌, refl, sym, ap, ◌∙◌}
 use mathlib.Core.List.{List, ◌++◌}
 use mathlib.Core.Logic.{⊎_elim}
 use Prim.Native.Nat.{ℕ, ◌+◌, ◌-◌, ◌^◌, ◌≤◌, ◌<◌}
-use native.Mathlib.Nat.{not-suc-le-zero, le_trans, le_of_eq, lt_of_lt_of_le}
+use native.Mathlib.Nat.{le_trans, le_of_eq, lt_of_lt_of_le}
 use native.Mathlib.Omega.{arith}
 use lib.IntN.{ℤ, pos, nat_abs, ◌+ℤ◌, +ℤ_idr}
 use lib.ListN.{length, take, drop, set, length-set}
@@ -12,7 +12,7 @@ use mir.Syntax.{w64}
 use Rattle.laws.specs.Table.{tabulate}
 use Rattle.laws.proofs.Table.{length-tabulate, get_d_tabulate}
 use Rattle.laws.proofs.Is.{Is, known}
-use Rattle.laws.proofs.Order.{lt-or-ge}
+use Rattle.std.proofs.lemmas.Bool.{cases_lt}
 use Rattle.noise.specs.Lines.{at}
 use Rattle.noise.proofs.LineSums.{entry, size}
 use Rattle.normal.proofs.Stored.{Stored, stored}
@@ -30,9 +30,6 @@ pub record Reached (g : ℕ → ℤ) (before now : List ℤ) (k : ℕ) : Type 0 
   pub rest : (i : ℕ) → k ≤ i → at now i ≡ at before i
 
 module _ (g : ℕ → ℤ) (before : List ℤ) where
-  pub reached-starts : Reached g before before 0
-  reached-starts = record { count = omega arith; same = refl; there = λ i h. absurd (not-suc-le-zero h); rest = λ i h. refl }
-
   module _ {now : List ℤ} (k : ℕ) (R : Reached g before now k) where
     pub reached-ends : length before ≤ k → now ≡ tabulate (length before) g
     reached-ends h = table_is now (length before) g R.same (λ i l. R.there i (lt_of_lt_of_le l h))
@@ -47,7 +44,7 @@ module _ (g : ℕ → ℤ) (before : List ℤ) where
         record {
           count = l;
           same = d ∙ R.same;
-          there = λ i h. ⊎_elim (λ q. early i q ∙ R.there i q) (λ q. new i q h) (lt-or-ge i k);
+          there = λ i h. ⊎_elim (λ q. early i q ∙ R.there i q) (λ q. new i q h) (cases_lt i k);
           rest = λ i h. late i h ∙ R.rest i (le_trans o h);
         }
 

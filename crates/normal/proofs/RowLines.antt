@@ -15,7 +15,6 @@ use Rattle.noise.proofs.Lines.{noise-le}
 use Rattle.noise.proofs.LineSums.{entry, size}
 use Rattle.normal.specs.Normal.{Picture}
 use Rattle.normal.specs.Starts.{start_sum, by_rows, Strip}
-use Rattle.normal.specs.Rows.{Plot}
 use Rattle.normal.proofs.Overlaps.{start-ext, start-bound}
 use Rattle.normal.proofs.Places.{rows_ext}
 
@@ -30,6 +29,12 @@ module _ {v : View} {source denoised : List ℕ} (S : Seen v source denoised) wh
   -- a line that holds row r
   pub line_small : {p : List ℤ} (r : ℕ) → r < v.height → p ≡ tabulate v.width (noise_at source denoised v r) → AtMost noise_limit p
   line_small r l e = at_most v.width noise_limit (noise_at source denoised v r) e (λ c. noise-small r c l)
+
+-- a view whose rows have n places from each of `side` starts on
+pub record Plot (v : View) (source denoised : List ℕ) (n side : ℕ) : Type 0 where
+  pub seen : Seen v source denoised
+  pub wide : n + side ≤ v.width + 1
+  pub some : 1 ≤ side
 
 module _ {v : View} {source denoised : List ℕ} {n side : ℕ} (P : Plot v source denoised n side) where
   abbrev f : Picture

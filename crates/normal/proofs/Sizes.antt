@@ -1,7 +1,12 @@
 -- How much room the sums take at lags up to 3, and zeros to begin with. Assumes nothing.
-use Prim.Native.Nat.{ℕ, ◌+◌, ◌*◌, ◌≤◌}
+use mathlib.Core.Path.{◌≡◌}
+use mathlib.Core.List.{List}
+use Prim.Native.Nat.{ℕ, ◌+◌, ◌*◌, ◌≤◌, ◌<◌}
 use native.Mathlib.Nat.{mul-le-mul}
 use native.Mathlib.Omega.{arith}
+use lib.IntN.{ℤ, pos}
+use lib.ListN.{length}
+use Rattle.noise.specs.Lines.{at}
 use Rattle.positions.specs.Counts.{side}
 use Rattle.normal.specs.Layout.{sums_size}
 
@@ -21,3 +26,8 @@ module _ {lag : ℕ} (h : lag ≤ 3) where
 
   pub sums-few : sums_size lag ≤ 784
   sums-few = mul-le-mul starts-few sides-few
+
+-- a list of zeros
+pub record Zeros (n : ℕ) (l : List ℤ) : Type 0 where
+  pub size : length l ≡ n
+  pub zero : (i : ℕ) → i < n → at l i ≡ pos 0

@@ -9,7 +9,7 @@ use lib.IntN.{ℤ, nat_abs, ◌+ℤ◌}
 use lib.ListN.{length, take, drop}
 use Rattle.laws.specs.Table.{tabulate}
 use Rattle.laws.proofs.Table.{tabulate-same}
-use Rattle.laws.proofs.Order.{lt-or-ge}
+use Rattle.std.proofs.lemmas.Bool.{cases_lt}
 use Rattle.frame.specs.declared.view.View.{View}
 use Rattle.noise.specs.Lines.{at}
 use Rattle.noise.specs.Seen.{Seen, noise_at}
@@ -19,6 +19,7 @@ use Rattle.noise.proofs.LineSums.{entry, size}
 use Rattle.positions.specs.Counts.{side, factors}
 use Rattle.positions.proofs.Counts.{factors-le, factors-rows}
 use Rattle.normal.specs.Normal.{Picture}
+use Rattle.normal.specs.Calls.{Window}
 use Rattle.normal.specs.Starts.{start_sum, Noisy}
 use Rattle.normal.specs.Blocks.{Addable}
 use Rattle.normal.specs.Taps.{tap_of, row_tap, plus_taps, TapRow, TapAdd}
@@ -58,7 +59,7 @@ module _ {f : Picture} {q : ℕ → ℤ} {w lag y : ℕ} {before row : List ℤ}
       columns-in = le_trans (le_of_eq e) (min-le_left s (factors lag - u * s))
 
       next : u * s + m ≡ min ((u + 1) * s) (factors lag)
-      next = ⊎_elim short full (lt-or-ge (factors lag - u * s) s)
+      next = ⊎_elim short full (cases_lt (factors lag - u * s) s)
         where
           short : factors lag - u * s < s → u * s + m ≡ min ((u + 1) * s) (factors lag)
           short l =
@@ -84,7 +85,7 @@ module _ {f : Picture} {q : ℕ → ℤ} {w lag y : ℕ} {before row : List ℤ}
       tapping-turn {new} d = record { sized = T.sized; reached = rw (sym next) (filling s (tap_of f q w lag y) before u m here columns-in in-before d) }
 
 -- ---- a line that holds row y + u
-module _ {v : View} {source denoised : List ℕ} {y lag : ℕ} {averages : List ℤ} {line row : ℕ} (S : Seen v source denoised) (T : TapRow v y lag averages line row)
+module _ {v : View} {source denoised : List ℕ} {y lag : ℕ} {averages : List ℤ} {row : ℕ} (S : Seen v source denoised) (W : Window v.width v.height lag) (T : TapRow v y lag averages row)
     {u : ℕ} (hu : u ≤ lag) {p : List ℤ} (e : p ≡ tabulate v.width (noise_at source denoised v (y + u))) where
   abbrev noises : ℕ → ℤ
   noises = noise_at source denoised v (y + u)
@@ -92,8 +93,8 @@ module _ {v : View} {source denoised : List ℕ} {y lag : ℕ} {averages : List 
   pub line-noisy : (c : ℕ) → c < side lag → Noisy p averages (v.width - 2 * lag) c lag
   line-noisy c l =
       record {
-        up-long = omega (arith, size v.width noises e, T.window.columns);
-        lo-long = omega (arith, T.averages-length, T.window.columns);
+        up-long = omega (arith, size v.width noises e, W.columns);
+        lo-long = omega (arith, T.averages-length, W.columns);
         few = omega (arith, S.narrow);
         up_small = line_small S (y + u) (omega (arith, T.inside)) e;
         lo_small = T.averages-small;
@@ -104,10 +105,10 @@ module _ {v : View} {source denoised : List ℕ} {y lag : ℕ} {averages : List 
   line-taps k m q l d =
       d ∙ ap (λ (j : ℕ). tabulate j (λ c. start_sum (at p) (at averages) (v.width - 2 * lag) c lag)) q ∙ tabulate-same m _ _ (λ c k.
       start-ext (at p) (at averages) (v.width - 2 * lag) c lag noises (at averages)
-      (λ x h. entry v.width noises e (c + x) (omega (arith, T.window.columns))) (λ x h. refl))
+      (λ x h. entry v.width noises e (c + x) (omega (arith, W.columns))) (λ x h. refl))
 
 -- ---- a row's sums, added to those of the rows before
-module _ {p : PlanePair} {y lag : ℕ} {averages : List ℤ} {line : ℕ} {taps : List ℤ} (A : TapAdd p y lag averages line taps)
+module _ {p : PlanePair} {y lag : ℕ} {averages taps : List ℤ} (A : TapAdd p y lag averages taps)
     {r : List ℤ} (e : r ≡ tabulate (factors lag) (row_tap (noise_in p) (at averages) p.view.width lag y)) where
   abbrev gain : ℕ → ℤ
   gain = row_tap (noise_in p) (at averages) p.view.width lag y

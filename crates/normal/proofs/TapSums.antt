@@ -9,7 +9,7 @@ use lib.IntN.{ℤ, pos, nat_abs, ◌+ℤ◌}
 use mir.Syntax.{w64}
 use mir.Val.{of_z, to_z}
 use Rattle.laws.specs.Limits.{side_limit}
-use Rattle.laws.specs.Sums.{total}
+use Rattle.laws.specs.Sums.{total, sum_to}
 use Rattle.laws.specs.Table.{tabulate}
 use Rattle.laws.proofs.Table.{tabulate-same}
 use Rattle.laws.proofs.Sums.{sum_more, sum_bound}
@@ -30,14 +30,26 @@ use Rattle.normal.specs.Calls.{Window, TapSums}
 use Rattle.normal.specs.ShownFrame.{geometry_in, luma_in}
 use Rattle.normal.specs.declared.shown_frame.ShownFrame.{ShownFrame}
 use Rattle.normal.specs.Starts.{start_sum, average_limit}
-use Rattle.normal.specs.Blocks.{Zeros}
-use Rattle.normal.specs.Taps.{row_tap, plus_taps, squares_after, taps_after, TapAdd, AverageRoom, TapRows, TapsHeld}
+use Rattle.normal.specs.Taps.{row_tap, plus_taps, TapAdd, AverageRoom}
+use Rattle.normal.proofs.Sizes.{Zeros}
 use Rattle.normal.proofs.Overlaps.{start-ext, start-bound}
 use Rattle.normal.proofs.Reached.{table_is}
 use Rattle.normal.proofs.RowLines.{noise-small}
 use Rattle.normal.proofs.Windows.{window-starts, window-ext}
 use Rattle.normal.proofs.Entries.{back, neighbour-seen}
 use Rattle.normal.proofs.AverageRows.{averages-small}
+
+-- ---- after m rows of the window: the squares of the averages q, and each neighbour × tap
+abbrev pub squares_after : Picture → ℕ → ℕ → ℕ → ℤ
+squares_after q w lag m = sum_to (λ y. start_sum (q (y + lag)) (q (y + lag)) (w - 2 * lag) lag lag) m
+
+abbrev pub taps_after : Picture → Picture → ℕ → ℕ → ℕ → ℕ → ℤ
+taps_after f q w lag m i = sum_to (λ y. row_tap f (q (y + lag)) w lag y i) m
+
+pub record TapsHeld (f : ShownFrame) (lag m : ℕ) (squares : ℤ) (cb-taps cr-taps : List ℤ) : Type 0 where
+  pub squares-are : squares ≡ squares_after (quarters (luma_in f)) f.cb.view.width lag m
+  pub cb-are : cb-taps ≡ tabulate (factors lag) (taps_after (noise_in f.cb) (quarters (luma_in f)) f.cb.view.width lag m)
+  pub cr-are : cr-taps ≡ tabulate (factors lag) (taps_after (noise_in f.cr) (quarters (luma_in f)) f.cr.view.width lag m)
 
 -- ---- the averages q, in a window of a plane w wide
 module _ (q : Picture) (w lag h : ℕ) where
@@ -126,7 +138,7 @@ module _ (f q : Picture) (w lag : ℕ) where
         rows = omega arith
 
 -- ---- of a frame
-module _ (f : ShownFrame) {lag sums averages line : ℕ} {cb-taps cr-taps : List ℤ} (P : TapRows (geometry_in f) lag sums averages line cb-taps cr-taps) where
+module _ (f : ShownFrame) {lag : ℕ} (W : Window f.cb.view.width f.cb.view.height lag) where
   abbrev w : ℕ
   w = f.cb.view.width
 
@@ -136,9 +148,9 @@ module _ (f : ShownFrame) {lag sums averages line : ℕ} {cb-taps cr-taps : List
   abbrev tap : Picture
   tap = quarters (luma_in f)
 
-  pub held_none : TapsHeld f lag 0 (pos 0) cb-taps cr-taps
+  pub held_none : {cb-taps cr-taps : List ℤ} → Zeros (factors lag) cb-taps → Zeros (factors lag) cr-taps → TapsHeld f lag 0 (pos 0) cb-taps cr-taps
   unfolding total
-  held_none = record { squares-are = refl; cb-are = taps-none (noise_in f.cb) tap w lag P.cb-nothing; cr-are = taps-none (noise_in f.cr) tap f.cr.view.width lag P.cr-nothing }
+  held_none cb cr = record { squares-are = refl; cb-are = taps-none (noise_in f.cb) tap w lag cb; cr-are = taps-none (noise_in f.cr) tap f.cr.view.width lag cr }
 
   average-small : (r c : ℕ) → r < h → c < w → nat_abs (tap r c) ≤ average_limit
   average-small r c l = average-le f.over f.luma.seen l c
@@ -148,15 +160,15 @@ module _ (f : ShownFrame) {lag sums averages line : ℕ} {cb-taps cr-taps : List
     row_below : m + lag < h
     row_below = omega arith
 
-    pub average-room : {sums averages : ℕ} → sums ≡ f.luma.view.width → averages ≡ w → AverageRoom (geometry_in f) (m + lag) lag sums averages
-    average-room e d = record { row = row_below; columns = P.window.columns; sums-length = e; averages-length = d }
+    pub average-room : {averages : ℕ} → averages ≡ w → AverageRoom (geometry_in f) (m + lag) averages
+    average-room e = record { row = row_below; averages-length = e }
 
     pub squares-turn : {a : ℤ} (t : ℤ) → a ≡ squares_after tap w lag m → t ≡ start_sum (tap (m + lag)) (tap (m + lag)) (w - 2 * lag) lag lag
         → Is w64 (a +ℤ to_z w64 (of_z w64 t)) (squares_after tap w lag (m + 1))
     squares-turn t e d =
         rows-turn (λ y. start_sum (tap (y + lag)) (tap (y + lag)) (w - 2 * lag) lag lag) (side_limit * (average_limit * average_limit)) (h - lag)
         (lt_of_le_of_lt (mul-le-mul_right (side_limit * (average_limit * average_limit)) rows) (lit< tt))
-        (squares-le tap w lag h P.window f.cb.seen.narrow average-small) m t in_rows e d
+        (squares-le tap w lag h W f.cb.seen.narrow average-small) m t in_rows e d
       where
         rows : h - lag ≤ side_limit
         rows = omega (arith, f.cb.seen.low)
@@ -164,22 +176,20 @@ module _ (f : ShownFrame) {lag sums averages line : ℕ} {cb-taps cr-taps : List
     -- a component, which is looked at as Cb is
     module _ (p : PlanePair) (alike : p.view ≡ f.cb.view) {taps filled : List ℤ}
         (e : taps ≡ tabulate (factors lag) (taps_after (noise_in p) tap p.view.width lag m)) (d : filled ≡ tabulate w (tap (m + lag))) where
-      pub component-add : {room : ℕ} → room ≡ w → TapAdd p m lag filled room taps
-      component-add l =
+      pub component-add : TapAdd p m lag filled taps
+      component-add =
           record {
             tap-row = record {
-              window = rw alike P.window;
               inside = rw alike row_below;
               averages-length = rw alike (size w (tap (m + lag)) d);
               averages-small = averages-small f.over f.luma.seen row_below d;
-              line-length = rw alike l;
               row-length = size (factors lag) _ e;
             };
-            small = taps-room (noise_in p) tap p.view.width lag p.view.height (rw alike P.window) p.seen.narrow p.seen.low (noise-small p.seen) (rw alike average-small) m (rw alike in_rows) e (rw alike d);
+            small = taps-room (noise_in p) tap p.view.width lag p.view.height (rw alike W) p.seen.narrow p.seen.low (noise-small p.seen) (rw alike average-small) m (rw alike in_rows) e (rw alike d);
           }
 
       pub component-more : {taps' : List ℤ} → taps' ≡ plus_taps (noise_in p) (at filled) p.view.width lag m taps → taps' ≡ tabulate (factors lag) (taps_after (noise_in p) tap p.view.width lag (m + 1))
-      component-more g = taps-more (noise_in p) tap p.view.width lag m (rw alike P.window.columns) (rw alike d) e g
+      component-more g = taps-more (noise_in p) tap p.view.width lag m (rw alike W.columns) (rw alike d) e g
 
 -- all rows, of what the geometry shows
 pub held_all : {f : ShownFrame} {lag : ℕ} {squares result : ℤ} {cb-taps cr-taps : List ℤ} → Window f.cb.view.width f.cb.view.height lag

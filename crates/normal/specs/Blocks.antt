@@ -4,11 +4,6 @@ use Rattle.std.specs.Prelude.{◌≡◌, cond, List, ℕ, ◌+◌, ◌-◌, ◌*
 use Rattle.noise.specs.Lines.{at}
 use Rattle.normal.specs.Layout.{block_at}
 
--- a list of zeros
-pub record Zeros (n : ℕ) (l : List ℤ) : Type 0 where
-  pub size : length l ≡ n
-  pub zero : (i : ℕ) → i < n → at l i ≡ pos 0
-
 -- two lists of one length whose sums an i64 holds
 pub record Addable (sums more : List ℤ) : Type 0 where
   pub same : length sums ≡ length more

@@ -4,9 +4,10 @@ ghost use Rattle.laws.specs.Table.{tabulate};
 ghost use Rattle.noise.specs.Lines.{at};
 ghost use Rattle.normal.specs.Blocks.{Addable, if_passed, Room, Added};
 
-// At most, at lag 3: the rows from which a table's lower line may be apart, and the places at which a line may start.
+// At lag 3, which has the most: how many distances in rows two lines may have, 0 among them.
 const STARTS: usize = 4;
 
+// And at how many columns a line may start.
 const SIDE: usize = 7;
 
 // The most numbers that a row's tables have.
@@ -20,13 +21,13 @@ pub fn blank_tables() -> [i64; TABLES] {
     [0; TABLES]
 }
 
-// sums[i] = sums[i] + more[i]. By index, since `iter_mut` forgets what it wrote.
+// sums[i] = sums[i] + more[i]
 pub fn add_to(sums: &mut [i64], more: &[i64])
     requires { Addable sums.old more.now }
     ensures { sums.new ≡ tabulate (length sums.old) (λ i. at sums.old i +ℤ at more.now i) }
 {
-    for i in 0..sums.len() {
-        sums[i] += more[i];
+    for (i, sum) in sums.iter_mut().enumerate() {
+        *sum += more[i];
     }
 }
 
@@ -40,7 +41,7 @@ fn add_passed(block: &mut [i64], table: &[i64], rows: usize, r: usize, low: usiz
     }
 }
 
-// Adds row r's tables to the sums of those pairs of start rows that have row r as their lower row. By index, since `chunks_mut` forgets what was written.
+// Adds row r's tables to the sums of those pairs of start rows that have row r as their lower row. By index. Tried: `sums.chunks_mut(k).enumerate()`, after which a proof knows no number that was written.
 pub fn add_row(sums: &mut [i64], tables: &[i64], starts: usize, rows: usize, r: usize, k: usize)
     requires { Room sums.old tables.now starts r k }
     ensures { Added sums.old sums.new tables.now starts rows r k }

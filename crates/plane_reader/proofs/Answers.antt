@@ -1,6 +1,7 @@
 -- What a read answers, from what it asks; and that the place which is read lies in a plane that has samples. Assumes nothing.
 use Rattle.std.proofs.Common.{◌≡◌, ℕ, zero, suc, ◌+◌, ◌*◌, ◌<◌, ◌≤◌, ℤ, pos, negsuc, Bool, true, false, cond, ◌&&◌, eqb, List, length, Option, Some, None, Result, Ok, Err, refl, sym, ap, ◌∙◌, arith}
 use Rattle.std.proofs.Math.Nat.{mul-le-mul, mul_comm}
+use lib.Ieee.Positive.{first_pos}
 use Rattle.std.specs.Borrow.{Bor}
 use Rattle.std.specs.List.{HoldsAt, slice_get}
 use Rattle.std.specs.Option.{MatchOption, option_copied}
@@ -39,11 +40,6 @@ held_at-le : (n : ℕ) (z : ℤ) → held_at n z ≤ n
 held_at-le n (pos k) = omega arith
 held_at-le n (negsuc k) = omega arith
 
--- a plane that has samples has columns and rows
-has-cols : (cols rows : ℕ) → 0 < cols * rows → 0 < cols
-has-cols zero rows h = absurd (omega arith)
-has-cols (suc cols) rows h = omega arith
-
 module _ (rows cols : ℕ) (row col : ℤ) where
   abbrev pub place : ℕ
   place = held_at rows row * cols + held_at cols col
@@ -51,7 +47,7 @@ module _ (rows cols : ℕ) (row col : ℤ) where
   place-lt : 0 < cols * rows → place < cols * rows
   place-lt h =
       mul-add-lt (held_at rows row) cols (held_at cols col) rows
-      (held_at-lt rows row (has-cols rows cols (rw mul_comm h))) (held_at-lt cols col (has-cols cols rows h))
+      (held_at-lt rows row (first_pos rows cols (rw mul_comm h))) (held_at-lt cols col (first_pos cols rows h))
 
   pub place-le : rows ≤ side_limit → cols ≤ side_limit → place ≤ side_limit * side_limit + side_limit
   place-le r c =

@@ -1,9 +1,10 @@
 -- What `ar_positions` answers: the neighbours by number, and zeros after them. Assumes nothing.
-use mathlib.Core.Path.{◌≡◌, refl, ◌∙◌}
+use mathlib.Core.Path.{◌≡◌, ◌∙◌}
 use mathlib.Core.List.{List, ◌++◌, map, map-append}
-use Prim.Native.Nat.{ℕ, zero, suc, ◌-◌, ◌≤◌, ◌<◌}
+use Prim.Native.Nat.{ℕ, ◌-◌, ◌≤◌, ◌<◌}
 use borrow.Author.Tests.{le-leb, lt-leb}
 use lib.IntN.{ℤ, pos}
+use lib.LanesLaws.{map-replicate}
 use lib.ListN.{replicate, drop}
 use Rattle.std.proofs.lemmas.List.{drop-replicate}
 use Rattle.laws.specs.Table.{tabulate}
@@ -22,16 +23,12 @@ pub refused-is : (lag : ℕ) → 3 < lag → positions_of lag ≡ refused 7
 unfolding positions_of
 refused-is lag h = rw (lt-leb lag 3 h)
 
-map-zeros : (f : Offset → ℤ) (n : ℕ) (z : Offset) → f z ≡ pos 0 → map f (replicate n z) ≡ replicate n (pos 0)
-map-zeros f zero z e = refl
-map-zeros f (suc n) z e = rw (e, map-zeros f n z e)
-
 -- one of an offset's two numbers, f, along a list of neighbours before zeros
 padded : (f : Offset → ℤ) (lag n : ℕ) (z : Offset) → f z ≡ pos 0
     → map f (tabulate n (place_at lag) ++ drop n (replicate 24 z)) ≡ tabulate n (λ i. f (place_at lag i)) ++ replicate (24 - n) (pos 0)
 padded f lag n z e =
     map-append f (tabulate n (place_at lag)) (drop n (replicate 24 z))
-    ∙ rw (map-tabulate f n (place_at lag), drop-replicate n 24 z, map-zeros f (24 - n) z e)
+    ∙ rw (map-tabulate f n (place_at lag), drop-replicate n 24 z, map-replicate, e)
 
 pub accepted-is : (lag : ℕ) (places : List Offset) (z : Offset) → lag ≤ 3 → z.row ≡ pos 0 → z.column ≡ pos 0 → places ≡ tabulate (neighbours lag) (place_at lag)
     → (let all = places ++ drop (neighbours lag) (replicate 24 z) in

@@ -5,7 +5,6 @@ pub mod Places
 pub mod Steps
 pub mod Text
 mod Answers
-pub mod FromFn
 pub mod Neighbours
 pub mod Filter
 pub mod Range

@@ -10,7 +10,7 @@ use lib.Signed.{◌<ℤ◌, ◌≤ℤ◌, <ℤ_irrefl}
 use Rattle.laws.specs.Table.{tabulate}
 use Rattle.laws.specs.Sets.{In}
 use Rattle.laws.proofs.Table.{length-tabulate, get_d_tabulate}
-use Rattle.laws.proofs.Order.{lt-or-ge}
+use Rattle.std.proofs.lemmas.Bool.{cases_lt}
 use Rattle.laws.proofs.Members.{in-tabulate, tabulate-in, nodup-tabulate}
 use Rattle.positions.specs.Counts.{side, neighbours}
 use Rattle.positions.specs.Positions.{Offset, positions}
@@ -23,7 +23,7 @@ use Rattle.positions.proofs.Text.{walk-is-positions}
 
 -- ---- numbers in order have places in order
 digits-order : (s i j : ℕ) → 0 < s → i < j → (i / s < j / s) ⊎ ((i / s ≡ j / s) × (i % s < j % s))
-digits-order s i j h l = ⊎_elim inl (λ u. inr (same u, rest (same u))) (lt-or-ge (i / s) (j / s))
+digits-order s i j h l = ⊎_elim inl (λ u. inr (same u, rest (same u))) (cases_lt (i / s) (j / s))
   where
     same : j / s ≤ i / s → i / s ≡ j / s
     same u = le_antisymm ((le-div_iff_mul-le h).1 (le_trans (div-mul-le_self i s) (le_of_lt l))) u

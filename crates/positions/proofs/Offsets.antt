@@ -9,7 +9,7 @@ use borrow.Author.Tests.{lt-ltb, le-ltb}
 use lib.Dec.{T, eqb, eqb-suc-zero, lt→ltb, ltb→lt, leb→le, le→leb}
 use lib.IntN.{ℤ, pos, negsuc, neg_ℤ, nat_abs, ◌+ℤ◌, ◌-ℤ◌, +ℤ_assoc, +ℤ_comm, +ℤ_invr, -ℤ-+ℤ_cancel, +ℤ-neg_ℤ_cancel}
 use lib.Signed.{lt_z, le_z, non_neg, ◌<ℤ◌, ◌≤ℤ◌, ≤ℤ_refl, clash_ℤ, pos-nat_abs}
-use Rattle.laws.proofs.Order.{lt-or-ge}
+use Rattle.std.proofs.lemmas.Bool.{cases_lt}
 
 -- ---- the sign
 pub below : (k l : ℕ) → k < l → pos k -ℤ pos l ≡ negsuc (l - suc k)
@@ -26,12 +26,9 @@ is_zero l = rw (+ℤ_invr (pos l))
 pub is-not-zero : (k l : ℕ) → k < l → eqb (nat_abs (pos k -ℤ pos l)) 0 ≡ false
 is-not-zero k l h = rw (below k l h) (eqb-suc-zero (l - suc k))
 
-pub offset-size : (k l : ℕ) → nat_abs (pos k -ℤ pos l) ≤ k + l
-offset-size k l = ⊎_elim (λ h. rw (below k l h) (omega arith)) (λ h. rw (above k l h) (omega arith)) (lt-or-ge k l)
-
 -- ---- the order
 pub offset-lt : (j k l : ℕ) → j < k → (pos j -ℤ pos l) <ℤ (pos k -ℤ pos l)
-offset-lt j k l h = ⊎_elim both (λ u. ⊎_elim (apart u) (neither u) (lt-or-ge j l)) (lt-or-ge k l)
+offset-lt j k l h = ⊎_elim both (λ u. ⊎_elim (apart u) (neither u) (cases_lt j l)) (cases_lt k l)
   where
     both : k < l → (pos j -ℤ pos l) <ℤ (pos k -ℤ pos l)
     both u = record { lt = rw (below j l (lt_trans h u), below k l u) (lt→ltb (l - suc k) (l - suc j) (omega arith)) }
@@ -55,10 +52,10 @@ pub offset-le : (j k l : ℕ) → j ≤ k → (pos j -ℤ pos l) ≤ℤ (pos k -
 offset-le j k l h = ⊎_elim (λ e. rw e (≤ℤ_refl (pos k -ℤ pos l))) (λ u. lt-le (offset-lt j k l u)) (eq-or-lt_of_le h)
 
 pub offset-le-back : (j k l : ℕ) → (pos j -ℤ pos l) ≤ℤ (pos k -ℤ pos l) → j ≤ k
-offset-le-back j k l h = ⊎_elim (λ u. clash_ℤ (offset-lt k j l u) h) (λ u. u) (lt-or-ge k j)
+offset-le-back j k l h = ⊎_elim (λ u. clash_ℤ (offset-lt k j l u) h) (λ u. u) (cases_lt k j)
 
 pub offset-lt-back : (j k l : ℕ) → (pos j -ℤ pos l) <ℤ (pos k -ℤ pos l) → j < k
-offset-lt-back j k l h = ⊎_elim (λ u. u) (λ u. clash_ℤ h (offset-le k j l u)) (lt-or-ge j k)
+offset-lt-back j k l h = ⊎_elim (λ u. u) (λ u. clash_ℤ h (offset-le k j l u)) (cases_lt j k)
 
 pub offset-same : (j k l : ℕ) → pos j -ℤ pos l ≡ pos k -ℤ pos l → j ≡ k
 offset-same j k l e = ap nat_abs (sym (-ℤ-+ℤ_cancel (pos j) (pos l)) ∙ ap (λ (z : ℤ). z +ℤ pos l) e ∙ -ℤ-+ℤ_cancel (pos k) (pos l))

@@ -10,7 +10,7 @@ use native.Mathlib.Omega.{arith}
 use lib.Dec.{eqb}
 use lib.IntN.{ℤ, pos, nat_abs, ◌-ℤ◌}
 use Rattle.laws.specs.Table.{tabulate}
-use Rattle.laws.proofs.Order.{lt-or-ge}
+use Rattle.std.proofs.lemmas.Bool.{cases_lt}
 use Rattle.laws.proofs.Table.{map-tabulate, tabulate-add}
 use Rattle.positions.specs.Counts.{side, neighbours}
 use Rattle.positions.specs.Text.{Delta, from_minus, visit_rows, visits, is_sample, up_to_sample, walk}
@@ -55,7 +55,7 @@ visits-are lag =
 
 -- a neighbour is not the sample, which comes after the last of them
 not-sample : (lag i : ℕ) → i < neighbours lag → is_sample (offset_at lag i) ≡ false
-not-sample lag i h = ⊎_elim (λ l. rw (is-not-zero (i / side lag) lag l)) (λ g. rw (is-not-zero (i % side lag) lag (early g)) (and-false (eqb (nat_abs (pos (i / side lag) -ℤ pos lag)) 0))) (lt-or-ge (i / side lag) lag)
+not-sample lag i h = ⊎_elim (λ l. rw (is-not-zero (i / side lag) lag l)) (λ g. rw (is-not-zero (i % side lag) lag (early g)) (and-false (eqb (nat_abs (pos (i / side lag) -ℤ pos lag)) 0))) (cases_lt (i / side lag) lag)
   where
     early : lag ≤ i / side lag → i % side lag < lag
     early g = omega (arith, h, all-rows lag, div-add-mod' i (side lag), mul-le-mul_right (side lag) g)

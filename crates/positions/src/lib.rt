@@ -1,12 +1,15 @@
 // The neighbours that a fit takes, in coefficient order.
 #![tactic(auto)]
 
-ghost use Rattle.std.specs.Prelude.{◌≡◌, ◌≤◌, ◌<◌, ◌/◌, ◌%◌, pos, ◌-ℤ◌};
+mod lag; // how far they lie
+
+ghost use Rattle.std.specs.Prelude.{◌≡◌, ◌<◌, ◌/◌, ◌%◌, pos, ◌-ℤ◌};
 ghost use Rattle.positions.specs.Counts.{side};
 ghost use Rattle.positions.specs.Positions.{positions_of};
 ghost use Rattle.positions.specs.Record.{record_of};
 
 use frame::Refusal;
+pub use lag::Lag;
 use std::array;
 
 // The most neighbours.
@@ -26,7 +29,8 @@ pub struct Neighbourhood {
     pub places: [Offset; NEIGHBOUR_LIMIT],
 }
 
-// The answer as C has it: a refusal's number; the count, and the row and the column of each neighbour.
+// The answer as C has it: a refusal's number; the count, and the row and the column of each neighbour. A number, since an exported record
+// holds no enum; an array of each field, as include/grain.h has them.
 #[repr(C)]
 #[derive(Clone, Copy)]
 pub struct Positions {
@@ -58,16 +62,15 @@ impl From<Result<Neighbourhood, Refusal>> for Positions {
 }
 
 // Neighbour i stands in row i / (2 × lag + 1) − lag and column i % (2 × lag + 1) − lag.
-fn offset_of(i: usize, lag: usize) -> Offset
-    requires { (i < NEIGHBOUR_LIMIT) × (lag ≤ 3) }
-    ensures row { result.row ≡ pos (i / side lag) -ℤ pos lag }
-    ensures column { result.column ≡ pos (i % side lag) -ℤ pos lag }
+fn offset_of(i: usize, lag: Lag) -> Offset
+    requires { i < NEIGHBOUR_LIMIT }
+    ensures row { result.row ≡ pos (i / side lag.reach) -ℤ pos lag.reach }
+    ensures column { result.column ≡ pos (i % side lag.reach) -ℤ pos lag.reach }
 {
-    let (i, lag) = (i as i32, lag as i32);
-    let side = 2 * lag + 1;
+    let (i, side, reach) = (i as i32, lag.side() as i32, lag.reach as i32);
     Offset {
-        row: i / side - lag,
-        column: i % side - lag,
+        row: i / side - reach,
+        column: i % side - reach,
     }
 }
 
@@ -75,8 +78,8 @@ fn offset_of(i: usize, lag: usize) -> Offset
 pub fn ar_positions(lag: usize) -> Result<Neighbourhood, Refusal>
     ensures { record_of result ≡ positions_of lag }
 {
-    frame::ask_lag(lag)?;
-    let count = 2 * lag * (lag + 1);
+    let lag = Lag::try_from(lag)?;
+    let count = lag.neighbours();
     let mut places = [Offset::default(); NEIGHBOUR_LIMIT];
     for (i, place) in places[..count].iter_mut().enumerate() {
         *place = offset_of(i, lag);

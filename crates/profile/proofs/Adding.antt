@@ -4,12 +4,12 @@ use mathlib.Core.List.{List}
 use Prim.Native.Nat.{ℕ, ◌+◌, ◌*◌, ◌^◌, ◌≤◌, ◌<◌}
 use native.Mathlib.Nat.{add_assoc}
 use native.Mathlib.Omega.{arith}
-use lib.ListN.{length, get_or, replicate, length-replicate, get_or-replicate}
+use lib.ListN.{length, get_or, replicate, get_or-replicate}
 use Rattle.laws.specs.Limits.{plane_limit}
 use Rattle.laws.specs.Table.{tabulate}
-use Rattle.laws.proofs.Table.{length-tabulate, get_d_tabulate, tabulate-same}
+use Rattle.laws.proofs.Table.{get_d_tabulate, tabulate-same}
 use Rattle.profile.specs.Parts.{square_limit}
-use Rattle.profile.specs.Runs.{Tables, Added, increased, Blank}
+use Rattle.profile.specs.Runs.{Tables, TablesAdded, increased, Blank}
 use Rattle.profile.proofs.Tables.{by_entries}
 
 -- ---- one table
@@ -31,12 +31,12 @@ module _ (from : List ℕ) (n : ℕ) (f : ℕ → ℕ) {table : List ℕ} (e : t
 
 -- ---- both
 module _ (bits : ℕ) {count squares : List ℕ} where
-  pub added_none : (f g : ℕ → ℕ) → length count ≡ 2 ^ bits → length squares ≡ 2 ^ bits → ((j : ℕ) → f j ≡ 0) → ((j : ℕ) → g j ≡ 0) → Added bits count squares f g count squares
+  pub added_none : (f g : ℕ → ℕ) → length count ≡ 2 ^ bits → length squares ≡ 2 ^ bits → ((j : ℕ) → f j ≡ 0) → ((j : ℕ) → g j ≡ 0) → TablesAdded bits count squares f g count squares
   added_none f g c s p q = record { counts = increased-none count (2 ^ bits) f c p; sums = increased-none squares (2 ^ bits) g s q }
 
-  module _ {f g : ℕ → ℕ} {count' squares' : List ℕ} (A : Added bits count squares f g count' squares') where
-    pub added_more : (f' g' : ℕ → ℕ) {count'' squares'' : List ℕ} (f'' g'' : ℕ → ℕ) → Added bits count' squares' f' g' count'' squares''
-        → ((j : ℕ) → f j + f' j ≡ f'' j) → ((j : ℕ) → g j + g' j ≡ g'' j) → Added bits count squares f'' g'' count'' squares''
+  module _ {f g : ℕ → ℕ} {count' squares' : List ℕ} (A : TablesAdded bits count squares f g count' squares') where
+    pub added_more : (f' g' : ℕ → ℕ) {count'' squares'' : List ℕ} (f'' g'' : ℕ → ℕ) → TablesAdded bits count' squares' f' g' count'' squares''
+        → ((j : ℕ) → f j + f' j ≡ f'' j) → ((j : ℕ) → g j + g' j ≡ g'' j) → TablesAdded bits count squares f'' g'' count'' squares''
     added_more f' g' f'' g'' B p q = record {
       counts = increased-more count (2 ^ bits) f A.counts f' f'' B.counts p;
       sums = increased-more squares (2 ^ bits) g A.sums g' g'' B.sums q;
@@ -46,9 +46,6 @@ module _ (bits : ℕ) {count squares : List ℕ} where
     pub room : (k m : ℕ) {n : ℕ} → Tables bits n count squares → k + m ≤ n → ((j : ℕ) → f j ≤ k) → ((j : ℕ) → g j ≤ square_limit * k) → Tables bits m count' squares'
     room k m {n} T l p q =
         record {
-          narrow = T.narrow;
-          counts = ap length A.counts ∙ length-tabulate (2 ^ bits) _;
-          sums = ap length A.sums ∙ length-tabulate (2 ^ bits) _;
           count_room = λ j h. omega (arith, increased-at count (2 ^ bits) f A.counts j h, T.count_room j h, p j);
           squares-room = λ j h. omega (arith, increased-at squares (2 ^ bits) g A.sums j h, T.squares-room j h, q j);
         }
@@ -57,13 +54,10 @@ module _ (bits : ℕ) {count squares : List ℕ} where
 pub blank-tables : {bits : ℕ} {count squares : List ℕ} → Blank bits count squares → Tables bits plane_limit count squares
 blank-tables {bits} B =
     record {
-      narrow = B.narrow;
-      counts = ap length B.counts ∙ length-replicate (2 ^ bits) 0;
-      sums = ap length B.sums ∙ length-replicate (2 ^ bits) 0;
       count_room = λ j h. rw (B.counts, get_or-replicate {A = ℕ} (2 ^ bits) j 0 0 h) (omega arith);
       squares-room = λ j h. rw (B.sums, get_or-replicate {A = ℕ} (2 ^ bits) j 0 0 h) (omega arith);
     }
 
-pub added-blank : (bits : ℕ) {count squares count' squares' : List ℕ} (f g : ℕ → ℕ) → Blank bits count squares → Added bits count squares f g count' squares'
+pub added-blank : (bits : ℕ) {count squares count' squares' : List ℕ} (f g : ℕ → ℕ) → Blank bits count squares → TablesAdded bits count squares f g count' squares'
     → (count' ≡ tabulate (2 ^ bits) f) × (squares' ≡ tabulate (2 ^ bits) g)
 added-blank bits {count} {squares} f g B A = (increased-blank count (2 ^ bits) f A.counts B.counts, increased-blank squares (2 ^ bits) g A.sums B.sums)

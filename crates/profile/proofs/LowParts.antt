@@ -1,20 +1,22 @@
 -- Samples below 2 ^ depth, of a lone plane or a part and of its denoised copy. A plane goes part by part: the parts ask about all its samples, and their squares add up to the plane's. Assumes nothing.
 use mathlib.Core.Path.{◌≡◌, refl, sym, ap, ◌∙◌, subst}
 use mathlib.Core.Bool.{Bool, true, false, cond, ◌&&◌, and-true, and-eq-true_iff, false≢true}
-use mathlib.Core.List.{List, [], ◌∷◌}
+use mathlib.Core.List.{List, [], ◌∷◌, ◌++◌}
 use Rattle.std.specs.Prelude.{Some, None}
-use Prim.Native.Nat.{ℕ, ◌+◌, ◌-◌, ◌*◌, ◌^◌, ◌≤◌, ◌<◌}
+use Prim.Native.Nat.{ℕ, ◌+◌, ◌-◌, ◌*◌, ◌^◌, ◌≤◌, ◌<◌, min}
 use native.Mathlib.Nat.{le_trans, lt_of_lt_of_le, le_of_eq}
 use native.Mathlib.Omega.{arith}
 use lib.Dec.{ltb}
 use lib.IntN.{ℤ, pos, nat_abs, ◌-ℤ◌}
 use lib.ListN.{length, get_or, take, drop, length-take, length-drop}
 use lib.Seq.{get_or-take, get_or-drop}
+use Rattle.std.proofs.lemmas.List.{take_at, drop_at, drop-drop}
 use borrow.Author.Tests.{ltb-true, ltb-false}
+use Rattle.laws.specs.Limits.{plane_limit}
 use Rattle.laws.specs.Table.{tabulate}
 use Rattle.laws.specs.Sums.{sum_n}
 use Rattle.laws.proofs.Table.{tabulate-same}
-use Rattle.laws.proofs.SumsN.{sum-ext, sum-split}
+use Rattle.laws.proofs.SumsN.{sum-ext, sum-split, sum_bound}
 use Rattle.frame.specs.Questions.{low, all_low}
 use Rattle.frame.proofs.Samples.{low_below, below-low}
 use Rattle.noise.specs.Shift.{shifted}
@@ -83,16 +85,16 @@ part_small {depth} {source} {denoised} P L e =
     (λ i l. subst (λ (k : ℕ). nat_abs (shifted_noise (depth - 8) source denoised k) ≤ shifted_limit) (at_place i) (run-noise (part-run P L (length source) refl) i l))
 
 -- ---- part by part
--- m samples from place `from` on, as `&xs[from..from + m]`
+-- m samples from place `from` on
 abbrev pub part : ℕ → ℕ → List ℕ → List ℕ
-part from m xs = take (from + m - from) (drop from xs)
+part from m xs = take m (drop from xs)
 
 module _ (from m : ℕ) (xs : List ℕ) (inside : from + m ≤ length xs) where
   pub part_length : length (part from m xs) ≡ m
   part_length = simp (length-take, length-drop) (omega arith)
 
   pub part_at : (i : ℕ) → i < m → get_or (part from m xs) i 0 ≡ get_or xs (from + i) 0
-  part_at i l = let h : i < from + m - from = omega arith in rw (get_or-take (from + m - from) (drop from xs) i 0 h, get_or-drop)
+  part_at i l = rw (get_or-take m (drop from xs) i 0 l, get_or-drop)
 
 -- the first k samples are low
 pub record LowTo (depth : ℕ) (source denoised : List ℕ) (k : ℕ) : Type 0 where
@@ -168,3 +170,64 @@ pub square-small : {most depth : ℕ} {source denoised : List ℕ} → Copied mo
     → (i : ℕ) → i < k → square (depth - 8) source denoised i ≤ square_limit
 square-small {most} {depth} {source} {denoised} P L i l =
     square_le (shifted_noise (depth - 8) source denoised i) (range_small _ (shifted-range depth P.least-depth source denoised i (L.source-low i l) (L.denoised-low i l)))
+
+-- ---- a plane gone through part by part: what is left of it and of its copy, and the sum so far
+pub record Passed (depth : ℕ) (source denoised left left' : List ℕ) (sum : ℕ) : Type 0 where
+  pub count : ℕ
+  pub inside : count ≤ length source
+  pub source-left : left ≡ drop count source
+  pub denoised-left : left' ≡ drop count denoised
+  pub source-low : LowTo depth source denoised count
+  pub sum-is : sum ≡ sum_n (square (depth - 8) source denoised) count
+
+-- s is the next part of a list whose first k samples are passed
+module _ (xs : List ℕ) (k : ℕ) (s rest : List ℕ) {left : List ℕ} (e : left ≡ drop k xs) (joined : left ≡ s ++ rest) where
+  next_is : (m : ℕ) → length s ≡ m → s ≡ part k m xs
+  next_is m l = sym (ap (take m) (sym e ∙ joined) ∙ take_at s rest m l)
+
+  rest_is : (m : ℕ) → length s ≡ m → rest ≡ drop (k + m) xs
+  rest_is m l = sym (sym (drop-drop m k xs) ∙ ap (drop m) (sym e ∙ joined) ∙ drop_at s rest m l)
+
+module _ {depth : ℕ} {source denoised : List ℕ} (P : Copied plane_limit depth source denoised) {left left' : List ℕ} {sum : ℕ} (H : Passed depth source denoised left left' sum) where
+  left-long : length left ≡ length source - H.count
+  left-long = rw H.source-left (length-drop H.count source)
+
+  pub left-alike : length left' ≡ length left
+  left-alike = rw (H.denoised-left, H.source-left) (omega (arith, length-drop H.count source, length-drop H.count denoised, P.same))
+
+  pub passed-fits : sum < 2 ^ 64
+  passed-fits = omega (arith, P.few, H.inside, H.sum-is, sum_bound square_limit _ _ (square-small P H.source-low))
+
+  -- nothing is left
+  pub passed-all : length left ≡ 0 → (all_low depth (source ∷ denoised ∷ []) ≡ true) × (sum ≡ sum_n (square (depth - 8) source denoised) (length source))
+  passed-all z =
+      let e : H.count ≡ length source = omega (arith, left-long, H.inside) in
+      (low-all P (rw e at H.source-low), rw e at H.sum-is)
+
+  module _ (s d rest rest' : List ℕ) (js : left ≡ s ++ rest) (jd : left' ≡ d ++ rest') (ls : length s ≡ min part_limit (length left)) (ld : length d ≡ min part_limit (length left')) where
+    source-part : s ≡ part H.count (min part_limit (length left)) source
+    source-part = next_is source H.count s rest H.source-left js _ ls
+
+    denoised-part : d ≡ part H.count (min part_limit (length left)) denoised
+    denoised-part = next_is denoised H.count d rest' H.denoised-left jd _ (ld ∙ ap (min part_limit) left-alike)
+
+    part-inside : H.count + min part_limit (length left) ≤ length source
+    part-inside = omega (arith, left-long, H.inside)
+
+    pub next-copied : Copied part_limit depth s d
+    next-copied = rw (source-part, denoised-part) (part_pair P H.count _ part-inside (omega arith))
+
+    pub next-not-low : all_low depth (s ∷ d ∷ []) ≡ false → all_low depth (source ∷ denoised ∷ []) ≡ false
+    next-not-low e = not_low P H.count _ part-inside (rw (source-part, denoised-part) at e)
+
+    pub next-passed : {x : ℕ} → all_low depth (s ∷ d ∷ []) ≡ true → x ≡ sum_n (square (depth - 8) s d) (length s) → Passed depth source denoised rest rest' (sum + x)
+    next-passed e x-is =
+        let m = min part_limit (length left) in
+        record {
+          count = H.count + m;
+          inside = part-inside;
+          source-left = rest_is source H.count s rest H.source-left js _ ls;
+          denoised-left = rest_is denoised H.count d rest' H.denoised-left jd _ (ld ∙ ap (min part_limit) left-alike);
+          source-low = low-more P H.count m part-inside H.source-low (is-low _ _ _ (rw (source-part, denoised-part) at e));
+          sum-is = (λ i. H.sum-is i + (rw (source-part, denoised-part) at x-is) i) ∙ part-more P H.count m part-inside _ _ (square-part P H.count m part-inside (depth - 8));
+        }

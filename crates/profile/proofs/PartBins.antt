@@ -16,10 +16,15 @@ use Rattle.noise.proofs.LineSums.{entry}
 use Rattle.profile.specs.Shifted.{shifted_noise, square_of, square}
 use Rattle.profile.specs.Bins.{bin_at}
 use Rattle.profile.specs.Parts.{part_limit, shifted_limit, square_limit, coarse_at, Binned, line_count, line_squares}
-use Rattle.profile.specs.Runs.{Run, run_count, run_squares, Added, RunAdded, increased}
+use Rattle.profile.specs.Runs.{Run, run_count, run_squares, TablesAdded, increased}
 use Rattle.profile.proofs.Range.{shifted-range, range_small, bin-shift}
 use Rattle.profile.proofs.Binning.{bin-ext}
 use Rattle.profile.proofs.Squares.{square_le, line_small}
+
+-- tables with what a run has in each bin added
+abbrev pub RunTables : ℕ → ℕ → List ℕ → List ℕ → ℕ → ℕ → ℕ → List ℕ → List ℕ → List ℕ → List ℕ → Type 0
+RunTables bits depth source denoised start stride n count squares =
+    TablesAdded bits count squares (run_count bits (depth - 8) source start stride n) (run_squares bits (depth - 8) source denoised start stride n)
 
 -- the lines of a part: shifted noise, and bins
 pub record LinesOf (source denoised : List ℕ) (start stride shift coarse n : ℕ) (line : List ℤ) (bins : List ℕ) : Type 0 where
@@ -33,10 +38,13 @@ shifted-is source denoised start stride shift {n} o l e =
     l ∙ tabulate-same n _ _ (λ i h. ap (shifted shift) (entry n (row_noise source denoised start stride) (o ∙ ap (λ (m : ℕ). tabulate m (row_noise source denoised start stride)) e) i h))
 
 -- and the bins
-pub lines_are : (source denoised : List ℕ) (start stride shift coarse : ℕ) {n m k : ℕ} {line own : List ℤ} {bins : List ℕ} → own ≡ tabulate m (row_noise source denoised start stride) → line ≡ tabulate n (λ i. shifted shift (at own i)) → bins ≡ tabulate k (coarse_at source start stride coarse) → m ≡ n → k ≡ n
+pub lines_are : (source denoised : List ℕ) (start stride shift coarse : ℕ) {n m k q : ℕ} {line own : List ℤ} {bins : List ℕ} → own ≡ tabulate m (row_noise source denoised start stride) → line ≡ tabulate q (λ i. shifted shift (at own i)) → bins ≡ tabulate k (coarse_at source start stride coarse) → m ≡ n → q ≡ n → k ≡ n
     → LinesOf source denoised start stride shift coarse n line bins
-lines_are source denoised start stride shift coarse o l b e f =
-    record { line-is = shifted-is source denoised start stride shift o l e; bins-is = b ∙ ap (λ (m : ℕ). tabulate m (coarse_at source start stride coarse)) f }
+lines_are source denoised start stride shift coarse o l b d e f =
+    record {
+      line-is = shifted-is source denoised start stride shift o l (d ∙ sym e) ∙ ap (λ (m : ℕ). tabulate m (λ i. shifted_noise shift source denoised (start + i * stride))) e;
+      bins-is = b ∙ ap (λ (m : ℕ). tabulate m (coarse_at source start stride coarse)) f;
+    }
 
 module _ {depth start stride n : ℕ} {source denoised : List ℕ} (R : Run depth source denoised start stride n) where
   -- what is below 2 ^ depth is below 2 ^ 15
@@ -86,7 +94,7 @@ module _ {depth start stride n : ℕ} {source denoised : List ℕ} (R : Run dept
     squares-are = fun_ext (λ j. ap (sum_n _) bins-size ∙ bin-ext _ _ _ _ n j bin-entry (λ i h. ap square_of (entry n _ L.line-is i h)))
 
     -- what the lines add is what the run has
-    pub part-added : {count squares count' squares' : List ℕ} → Added bits count squares (line_count bins) (line_squares line bins) count' squares'
-        → RunAdded bits depth source denoised start stride n count squares count' squares'
+    pub part-added : {count squares count' squares' : List ℕ} → TablesAdded bits count squares (line_count bins) (line_squares line bins) count' squares'
+        → RunTables bits depth source denoised start stride n count squares count' squares'
     part-added {count} {squares} A =
         record { counts = A.counts ∙ ap (increased count (2 ^ bits)) counts-are; sums = A.sums ∙ ap (increased squares (2 ^ bits)) squares-are }

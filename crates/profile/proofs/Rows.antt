@@ -7,7 +7,7 @@ use native.Mathlib.Nat.{le_trans, le_of_eq, lt_of_lt_of_le, mul-le-mul, mul_comm
 use native.Mathlib.Omega.{arith}
 use lib.Dec.{eqb}
 use lib.IntN.{pos, ◌-ℤ◌}
-use lib.ListN.{length}
+use lib.ListN.{length, length-replicate}
 use Rattle.laws.specs.Limits.{plane_limit}
 use Rattle.laws.specs.Sums.{total, sum_n}
 use Rattle.laws.proofs.SumsN.{sum-ext, sum-split, sum_rows, sum_bound, sum_more}
@@ -21,9 +21,9 @@ use Rattle.profile.specs.Shifted.{square_of, square}
 use Rattle.profile.specs.Bins.{bin_of, bin_at, in_bin, count_of_bin, squares_of_bin}
 use Rattle.profile.specs.Words.{LowSamples}
 use Rattle.profile.specs.Parts.{square_limit}
-use Rattle.profile.specs.Runs.{SeenAt, Run, Tables, RunAdded, Added, run_sum, run_count, run_squares, Blank}
+use Rattle.profile.specs.Runs.{SeenAt, Run, Tables, TablesAdded, run_sum, run_count, run_squares, Blank}
 use Rattle.profile.proofs.Binning.{count-le, bin-le}
-use Rattle.profile.proofs.PartBins.{run-square}
+use Rattle.profile.proofs.PartBins.{RunTables, run-square}
 use Rattle.profile.proofs.Adding.{added_none, added_more, room, blank-tables, added-blank}
 
 -- ---- a run and the one after it
@@ -67,16 +67,16 @@ module _ {depth start stride w : ℕ} {source denoised : List ℕ} (R : Run dept
       squared k h = omega arith
 
   module _ (bits : ℕ) {count squares : List ℕ} (T : Tables bits w count squares) where
-    pub part_none : RunAdded bits depth source denoised start stride 0 count squares count squares
+    pub part_none : length count ≡ 2 ^ bits → length squares ≡ 2 ^ bits → RunTables bits depth source denoised start stride 0 count squares count squares
     unfolding total
-    part_none = added_none bits _ _ T.counts T.sums (λ j. refl) (λ j. refl)
+    part_none c s = added_none bits _ _ c s (λ j. refl) (λ j. refl)
 
-    module _ (k : ℕ) {count' squares' : List ℕ} (A : RunAdded bits depth source denoised start stride k count squares count' squares') where
+    module _ (k : ℕ) {count' squares' : List ℕ} (A : RunTables bits depth source denoised start stride k count squares count' squares') where
       pub part_room : (m : ℕ) → k + m ≤ w → Tables bits m count' squares'
       part_room m l = room bits A k m T l (count_small bits (depth - 8) source start stride k) (squares-small bits k (omega arith))
 
-      pub part-more : (m : ℕ) {count'' squares'' : List ℕ} → RunAdded bits depth source denoised (start + k * stride) stride m count' squares' count'' squares''
-          → RunAdded bits depth source denoised start stride (k + m) count squares count'' squares''
+      pub part-more : (m : ℕ) {count'' squares'' : List ℕ} → RunTables bits depth source denoised (start + k * stride) stride m count' squares' count'' squares''
+          → RunTables bits depth source denoised start stride (k + m) count squares count'' squares''
       part-more m B = added_more bits A _ _ _ _ B (λ j. run_more (in_bin (bin_at bits (depth - 8) source) j (λ i. 1)) start stride k m) (λ j. run_more (in_bin (bin_at bits (depth - 8) source) j (square (depth - 8) source denoised)) start stride k m)
 
 -- ---- the rows of a view
@@ -93,7 +93,7 @@ module _ (bits depth : ℕ) (v : View) (source denoised : List ℕ) where
 
   -- both tables, once r rows are added
   abbrev pub RowsAdded : ℕ → List ℕ → List ℕ → List ℕ → List ℕ → Type 0
-  RowsAdded r count squares = Added bits count squares (λ j. sum_n (λ q. row_count q j) r) (λ j. sum_n (λ q. row_squares q j) r)
+  RowsAdded r count squares = TablesAdded bits count squares (λ j. sum_n (λ q. row_count q j) r) (λ j. sum_n (λ q. row_squares q j) r)
 
   module _ (S : SeenAt depth v source denoised) where
     pub row-run : (r : ℕ) → r < v.height → Run depth source denoised (v.start + r * v.step) v.stride v.width
@@ -108,7 +108,7 @@ module _ (bits depth : ℕ) (v : View) (source denoised : List ℕ) where
     module _ {count squares : List ℕ} (B : Blank bits count squares) where
       pub rows_none : RowsAdded 0 count squares count squares
       unfolding total
-      rows_none = let T = blank-tables B in added_none bits _ _ T.counts T.sums (λ j. refl) (λ j. refl)
+      rows_none = added_none bits _ _ (ap length B.counts ∙ length-replicate (2 ^ bits) 0) (ap length B.sums ∙ length-replicate (2 ^ bits) 0) (λ j. refl) (λ j. refl)
 
       module _ (r : ℕ) {count' squares' : List ℕ} (l : r < v.height) (A : RowsAdded r count squares count' squares') where
         pub rows-room : Tables bits v.width count' squares'
@@ -123,7 +123,7 @@ module _ (bits depth : ℕ) (v : View) (source denoised : List ℕ) where
             fits : v.width * r + v.width ≤ plane_limit
             fits = le_trans (le_of_eq (sym (mul-suc v.width r))) (mul-le-mul S.seen.narrow (le_trans l S.seen.low))
 
-        pub rows_more : {count'' squares'' : List ℕ} → RunAdded bits depth source denoised (v.start + r * v.step) v.stride v.width count' squares' count'' squares''
+        pub rows_more : {count'' squares'' : List ℕ} → RunTables bits depth source denoised (v.start + r * v.step) v.stride v.width count' squares' count'' squares''
             → RowsAdded (r + 1) count squares count'' squares''
         rows_more C = added_more bits A _ _ _ _ C (λ j. sum_more (λ q. row_count q j) r) (λ j. sum_more (λ q. row_squares q j) r)
 

@@ -8,4 +8,5 @@ pub mod Words
 -- how the work is divided: the contracts of the parts
 pub mod Parts
 pub mod Runs
+pub mod LowPair
 pub mod LowParts

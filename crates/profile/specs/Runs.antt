@@ -1,5 +1,5 @@
 -- A run: n places of a plane from a start on, a stride apart. A row of a view is a run, and so is a part of a row. What the functions that go through the rows of a view ask and promise.
-use Rattle.std.specs.Prelude.{◌≡◌, List, ℕ, ◌+◌, ◌-◌, ◌*◌, ◌^◌, ◌≤◌, ◌<◌, length, get_or, replicate}
+use Rattle.std.specs.Prelude.{◌≡◌, List, ℕ, ◌+◌, ◌*◌, ◌^◌, ◌≤◌, ◌<◌, get_or, replicate}
 use Rattle.laws.specs.Limits.{plane_limit}
 use Rattle.laws.specs.Table.{tabulate}
 use Rattle.laws.specs.Sums.{sum_n}
@@ -38,11 +38,8 @@ run_squares bits shift source denoised start stride n j = run_sum (in_bin (bin_a
 
 -- ---- tables: an entry for each bin
 
--- tables of 2 ^ bits entries each, with room for n samples more
+-- 2 ^ bits entries in each of two tables have room for n samples more
 pub record Tables (bits n : ℕ) (count squares : List ℕ) : Type 0 where
-  pub narrow : bits ≤ 8
-  pub counts : length count ≡ 2 ^ bits
-  pub sums : length squares ≡ 2 ^ bits
   pub count_room : (j : ℕ) → j < 2 ^ bits → get_or count j 0 + n ≤ plane_limit
   pub squares-room : (j : ℕ) → j < 2 ^ bits → get_or squares j 0 + square_limit * n ≤ square_limit * plane_limit
 
@@ -51,18 +48,12 @@ abbrev pub increased : List ℕ → ℕ → (ℕ → ℕ) → List ℕ
 increased table n f = tabulate n (λ j. get_or table j 0 + f j)
 
 -- both tables, increased by f and by g
-pub record Added (bits : ℕ) (count squares : List ℕ) (f g : ℕ → ℕ) (count' squares' : List ℕ) : Type 0 where
+pub record TablesAdded (bits : ℕ) (count squares : List ℕ) (f g : ℕ → ℕ) (count' squares' : List ℕ) : Type 0 where
   pub counts : count' ≡ increased count (2 ^ bits) f
   pub sums : squares' ≡ increased squares (2 ^ bits) g
 
--- by what a run has in each bin
-abbrev pub RunAdded : ℕ → ℕ → List ℕ → List ℕ → ℕ → ℕ → ℕ → List ℕ → List ℕ → List ℕ → List ℕ → Type 0
-RunAdded bits depth source denoised start stride n count squares =
-    Added bits count squares (run_count bits (depth - 8) source start stride n) (run_squares bits (depth - 8) source denoised start stride n)
-
 -- tables of 2 ^ bits zeros
 pub record Blank (bits : ℕ) (count squares : List ℕ) : Type 0 where
-  pub narrow : bits ≤ 8
   pub counts : count ≡ replicate (2 ^ bits) 0
   pub sums : squares ≡ replicate (2 ^ bits) 0
 

@@ -5,15 +5,17 @@ ghost use Rattle.laws.specs.Sums.{sum_n};
 ghost use Rattle.noise.specs.Lines.{at};
 ghost use Rattle.profile.specs.Shifted.{square_of};
 ghost use Rattle.profile.specs.Parts.{part_limit, ShiftedLine, Binned, Between, line_count, line_squares};
-ghost use Rattle.profile.specs.Runs.{Run, Tables, Added, RunAdded};
+ghost use Rattle.profile.specs.LowPair.{RunOf, Room, Added, RunAdded};
 
-use crate::lines::bin_line;
-use noise::PlanePair;
+use crate::lines::{PartLines, bin_line};
+use crate::low_pair::LowPair;
+use crate::split::Split;
+use noise::Shift;
 
-// How many samples lie in each of 2^bits bins, and the sum of their squares.
+// How many samples lie in each bin, and the sum of their squares. (Two tables, as the definitions have them: contracts name each by itself, so that an array of bins would be parted again in each.)
 #[derive(Clone, Copy)]
 pub struct Bins<const BINS: usize> {
-    pub bits: u32,
+    pub split: Split<BINS>,
     pub count: [u64; BINS],
     pub squares: [u64; BINS],
 }
@@ -45,7 +47,7 @@ fn range_of(bins: &[u16]) -> Range
     Range { least, greatest }
 }
 
-// How many are in bin j; own[i] = line[i] where bins[i] is j, else 0. By index: a proof knows no element that `iter_mut` wrote.
+// How many are in bin j; own[i] = line[i] where bins[i] is j, else 0. (The lines apart, as in `bin_of`.)
 fn keep_bin(line: &[i16], bins: &[u16], j: u16, own: &mut [i16]) -> u16
     requires line { length line.now ≡ length own.old }
     requires bins { length bins.now ≡ length own.old }
@@ -54,10 +56,10 @@ fn keep_bin(line: &[i16], bins: &[u16], j: u16, own: &mut [i16]) -> u16
     ensures kept { own.new ≡ tabulate (length own.old) (λ i. cond (eqb (get_or bins.now i 0) j) (at line.now i) (pos 0)) }
 {
     let mut count = 0;
-    for i in 0..own.len() {
+    for (i, kept) in own.iter_mut().enumerate() {
         let hit = bins[i] == j;
         count += u16::from(hit);
-        own[i] = if hit { line[i] } else { 0 };
+        *kept = if hit { line[i] } else { 0 };
     }
     count
 }
@@ -70,7 +72,7 @@ pub fn line_squares(line: &[i16]) -> u64
     noise::dot::<{ noise::NOISE_BLOCK }>(line, line) as u64
 }
 
-// Bin j. Bins outside the range are empty, and one that is the whole range has all samples: neither is gone through.
+// Bin j. Bins outside the range are empty, and one that is the whole range has all samples: neither is gone through. (The line and its bins are read from here on, and `own` is written, where a `PartLines` lends all three to be written.)
 fn bin_of(line: &[i16], bins: &[u16], range: Range, j: u16, own: &mut [i16]) -> Bin
     requires binned { Binned line.now bins.now }
     requires range { Between bins.now range.least range.greatest }
@@ -88,20 +90,19 @@ fn bin_of(line: &[i16], bins: &[u16], range: Range, j: u16, own: &mut [i16]) -> 
         let squares = line_squares(line);
         Bin { count, squares }
     } else {
-        let count = keep_bin(line, bins, j, own) as u64;
+        let count = u64::from(keep_bin(line, bins, j, own));
         let squares = line_squares(own);
         Bin { count, squares }
     }
 }
 
 impl<const BINS: usize> Bins<BINS> {
-    // A line of shifted noise and its bins, added. By index: a proof knows no element that `iter_mut` wrote.
+    // A line of shifted noise and its bins, added. By index: a turn adds to two arrays. (How much room they need is the call's: what it adds. The lines apart, as in `bin_of`.)
     fn add_line(&mut self, line: &[i16], bins: &[u16], own: &mut [i16])
         requires binned { Binned line.now bins.now }
         requires own_fits { length own.old ≡ length bins.now }
-        requires room { Tables self.old.bits (length bins.now) self.old.count self.old.squares }
-        ensures bits { self.new.bits ≡ self.old.bits }
-        ensures added { Added self.old.bits self.old.count self.old.squares (line_count bins.now) (line_squares line.now bins.now) self.new.count self.new.squares }
+        requires room { Room self.old (length bins.now) }
+        ensures { Added (line_count bins.now) (line_squares line.now bins.now) self.old self.new }
     {
         let range = range_of(bins);
         for j in 0..BINS {
@@ -111,31 +112,21 @@ impl<const BINS: usize> Bins<BINS> {
         }
     }
 
-    // A part of a row, from a start on, added. The three lines have a place for each sample; as one struct each call would take it apart again.
-    pub fn add_part(
-        &mut self,
-        pair: &PlanePair,
-        start: usize,
-        depth: u8,
-        line: &mut [i16],
-        bins: &mut [u16],
-        own: &mut [i16],
-    )
-        requires run { Run depth pair.now.source.now pair.now.denoised.now start pair.now.view.stride (length line.old) }
-        requires few { length line.old ≤ part_limit }
-        requires bins_fit { length bins.old ≡ length line.old }
-        requires own_fits { length own.old ≡ length line.old }
-        requires room { Tables self.old.bits (length line.old) self.old.count self.old.squares }
-        ensures bits { self.new.bits ≡ self.old.bits }
-        ensures added { RunAdded self.old.bits depth pair.now.source.now pair.now.denoised.now start pair.now.view.stride (length line.old) self.old.count self.old.squares self.new.count self.new.squares }
+    // A part of a row, from a start on, added.
+    pub fn add_part(&mut self, low: &LowPair<'_>, start: usize, lines: PartLines<'_>)
+        requires run { RunOf low.now start (length lines.line.now) }
+        requires room { Room self.old (length lines.line.now) }
+        ensures { RunAdded low.now start (length lines.entry.line.now) self.old self.new }
     {
-        let src = pair.source;
-        let den = pair.denoised;
-        let stride = pair.view.stride;
-        let shift = (depth - 8) as u32;
-        let coarse = depth as u32 - self.bits;
+        let PartLines { line, bins, own } = lines;
+        let src = low.source;
+        let den = low.denoised;
+        let stride = low.view.stride;
+        let coarse = Shift {
+            bits: u32::from(low.depth) - self.split.bits,
+        };
         noise::noise_line(src, den, start, stride, own);
-        noise::shifted_line(own, shift, line);
+        noise::shifted_line(own, noise::depth_shift(low.depth), line);
         bin_line(src, start, stride, coarse, bins);
         self.add_line(line, bins, own);
     }

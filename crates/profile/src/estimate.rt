@@ -1,12 +1,13 @@
 // The profiles of a frame.
 ghost use Rattle.std.specs.Prelude.{◌≡◌, replicate};
 ghost use Rattle.profile.specs.Answers.{estimate_answer};
-ghost use Rattle.profile.specs.Record.{estimate_record};
+ghost use Rattle.profile.specs.Record.{luma_record, chroma_record, estimate_record};
 
+use crate::low_pair::LowPair;
 use crate::profiles::{Profile, profile_of};
+use crate::split::Split;
 use crate::{ChromaProfile, LumaProfile, NoiseEstimate};
 use frame::{Component, FramePair, Refusal, Shape};
-use noise::PlanePair;
 
 // The profiles of a frame's planes.
 #[derive(Clone, Copy)]
@@ -17,9 +18,6 @@ pub struct Estimate {
 }
 
 impl From<Profile<8>> for LumaProfile {
-    ghost use Rattle.std.specs.Prelude.{◌≡◌};
-    ghost use Rattle.profile.specs.Record.{luma_record};
-
     ghost from_gives = { λ profile r. r ≡ luma_record profile };
 
     fn from(profile: Profile<8>) -> LumaProfile {
@@ -39,9 +37,6 @@ impl From<Profile<8>> for LumaProfile {
 }
 
 impl From<Profile<4>> for ChromaProfile {
-    ghost use Rattle.std.specs.Prelude.{◌≡◌};
-    ghost use Rattle.profile.specs.Record.{chroma_record};
-
     ghost from_gives = { λ profile r. r ≡ chroma_record profile };
 
     fn from(profile: Profile<4>) -> ChromaProfile {
@@ -61,9 +56,6 @@ impl From<Profile<4>> for ChromaProfile {
 }
 
 impl From<Result<Estimate, Refusal>> for NoiseEstimate {
-    ghost use Rattle.std.specs.Prelude.{◌≡◌};
-    ghost use Rattle.profile.specs.Record.{estimate_record};
-
     ghost from_gives = { λ answer r. r ≡ estimate_record answer };
 
     fn from(answer: Result<Estimate, Refusal>) -> NoiseEstimate {
@@ -104,24 +96,27 @@ pub fn noise_estimate(s: Shape, frame: &FramePair<'_>) -> Result<Estimate, Refus
     let source = frame.source;
     let denoised = frame.denoised;
     let chroma = frame::view_of(s, Component::CbCr);
-    let y = PlanePair {
+    let y = LowPair {
         source: source.y,
         denoised: denoised.y,
         view: frame::view_of(s, Component::Y),
+        depth: s.depth,
     };
-    let cb = PlanePair {
+    let cb = LowPair {
         source: source.cb,
         denoised: denoised.cb,
         view: chroma,
+        depth: s.depth,
     };
-    let cr = PlanePair {
+    let cr = LowPair {
         source: source.cr,
         denoised: denoised.cr,
         view: chroma,
+        depth: s.depth,
     };
     Ok(Estimate {
-        luma: profile_of(&y, s.depth, 3, 64),
-        cb: profile_of(&cb, s.depth, 2, 32),
-        cr: profile_of(&cr, s.depth, 2, 32),
+        luma: profile_of(&y, Split { bits: 3 }, 64),
+        cb: profile_of(&cb, Split { bits: 2 }, 32),
+        cr: profile_of(&cr, Split { bits: 2 }, 32),
     })
 }

@@ -1,7 +1,9 @@
 // The noise of a plane and of a frame, as sigma16: for a plane, and for bins of its samples.
 #![tactic(auto)]
 
-mod lines; // the lines of a part: shifted noise, and bins
+mod low_pair; // a plane and its copy, of a known depth
+mod lines; // the lines of a part, and its bins
+mod split; // how samples are split into bins
 mod bins; // the bins of a part
 mod profiles; // the profile of a plane
 mod parts; // a part of a lone plane
@@ -12,7 +14,8 @@ pub use estimate::{Estimate, noise_estimate};
 pub use planes::plane_sigma16;
 pub use profiles::Profile;
 
-// Answers, as C has them.
+// Answers, as C has them. A refusal is a number, since an exported record holds no enum; an array of each figure, as include/grain.h has
+// them. Luma and chroma have a profile each, since an exported record can't be generic.
 
 #[repr(C)]
 #[derive(Clone, Copy)]

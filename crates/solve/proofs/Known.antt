@@ -15,7 +15,7 @@ less_each = fold (λ v p. less v p.0 p.1)
 part-long : (row : Row) (a m : ℕ) → a + m ≤ length row → length (take m (drop a row)) ≡ m
 part-long row a m h = length-take-le m (drop a row) (omega (arith, length-drop a row))
 
-part_at : (row : Row) (a m k : ℕ) → k < m → get_or (take m (drop a row)) k nan ≡ value row (a + k)
+pub part_at : (row : Row) (a m k : ℕ) → k < m → get_or (take m (drop a row)) k nan ≡ value row (a + k)
 part_at row a m k h = get_or-take m (drop a row) k nan h ∙ get_or-drop a row k nan
 
 module _ (row x : Row) (a m : ℕ) (h : a + m ≤ length row) (l : a + m ≤ length x) where

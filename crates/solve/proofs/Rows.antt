@@ -1,14 +1,16 @@
 -- An elimination's step on the matrix is its step on the one row that changes. Assumes nothing.
-use mathlib.Core.Path.{◌≡◌, sym, ◌∙◌}
+use mathlib.Core.Path.{◌≡◌, sym, ap, ◌∙◌}
 use mathlib.Core.Logic.{◌≢◌}
-use mathlib.Core.List.{[]}
-use Prim.Native.Nat.{ℕ, ◌≤◌, ◌<◌}
+use mathlib.Core.List.{[], ◌++◌}
+use Prim.Native.Nat.{ℕ, ◌+◌, ◌-◌, ◌≤◌, ◌<◌}
 use native.Mathlib.Nat.{lt_of_not-le}
 use native.Mathlib.Decide.{dec_le}
 use native.Mathlib.Omega.{arith}
-use lib.Ieee.{Float, binary64, div}
-use lib.ListN.{length, get_or, set}
+use borrow.Rule.Slice.PartMut.{put_mid, post_of}
+use lib.Ieee.{Float, nan, binary64, div}
+use lib.ListN.{length, get_or, set, take}
 use lib.Seq.{get_or-set_same, get_or-set_other, set-get_or, set-set, set_out}
+use Rattle.std.proofs.lemmas.List.{length-take-le, get_or_append_left, get_or-append_right, set-append_left, set-append_right}
 use Rattle.laws.specs.Loop.{loop}
 use Rattle.laws.proofs.Loop.{loops-together}
 use Rattle.solve.specs.Elimination.{Row, Matrix, System, value, cell, cell_less, row_less, row_cleared}
@@ -38,3 +40,13 @@ pub row-cleared-is : (p i r : ℕ) (a : Matrix) (b pivot row : Row) (f : Float) 
     → ◌≡◌ {A = System} (record { matrix = set a r row; right = entry_less b r f (value b i) }) (row_cleared p i r (record { matrix = a; right = b }))
 unfolding row_cleared row_less
 row-cleared-is p i r a b pivot row f l m q e d = rw (d, e, q, rows_apart p i r (div binary64 (cell a r i) (cell a i i)) a (λ d. omega arith) (omega arith))
+
+-- a part of a row, of m entries from a on: an entry of the part less what is taken from it is that of the row
+pub part-less : (row part : Row) (a m c : ℕ) (f v : Float) → a ≤ length row → c < length part → put_mid a m row (entry_less part c f v) ≡ entry_less (put_mid a m row part) (a + c) f v
+part-less row part a m c f v h l =
+    let e : a + c - a ≡ c = omega arith in
+    let front : length (take a row) ≡ a = length-take-le a row h in
+    let entry : value (put_mid a m row part) (a + c) ≡ value part c =
+    get_or-append_right (take a row) (part ++ post_of a m row) a (a + c) nan front (omega arith) ∙ rw e (get_or_append_left part (post_of a m row) nan c l) in
+    sym (rw entry (set-append_right (take a row) (part ++ post_of a m row) a (a + c) _ front (omega arith)
+    ∙ rw e (ap (λ (t : Row). take a row ++ t) (set-append_left part (post_of a m row) c _ l))))

@@ -10,7 +10,7 @@ use crate::ORDER_LIMIT;
 // A row of the matrix, or one number for each equation.
 pub type Row = [f64; ORDER_LIMIT];
 
-// A matrix and a right side, of which the first `order` rows and columns are used.
+// A matrix and a right side, of which the first `order` rows and columns are used. (Two arrays, as C lends them and as the definitions have them: an array of equations would be joined first, and parted again in each contract.)
 #[derive(Drop)]
 pub struct Equations {
     pub matrix: [Row; ORDER_LIMIT],
@@ -24,9 +24,10 @@ fn less_row(row: &mut Row, pivot: &Row, from: usize, to: usize, f: f64)
     requires { (from ≤ to) × (to ≤ ORDER_LIMIT) }
     ensures { row.new ≡ less_row to from f pivot.now row.old }
 {
-    // By index: an `iter_mut` that is zipped forgets what it wrote, and one that is enumerated counts from 0.
-    for c in from..to {
-        row[c] -= f * pivot[c];
+    let pivot = &pivot[from..to];
+    let part = &mut row[from..to];
+    for (c, x) in part.iter_mut().enumerate() {
+        *x -= f * pivot[c];
     }
 }
 
@@ -42,31 +43,22 @@ fn less_known(row: &Row, x: &Row, from: usize, to: usize, v: f64) -> f64
 impl Equations {
     ghost use Rattle.solve.specs.Parts.{system_of};
 
-    // The first row from i on with the largest magnitude in column i.
-    fn pivot_row(&self, i: usize) -> usize
-        requires { i < self.now.order }
-        ensures pivot { result ≡ pivot_of self.now.order self.now.matrix i }
-        ensures used { result < self.now.order }
-    {
-        let mut pivot = i;
-        for r in i + 1..self.order {
-            if float::magnitude(self.matrix[r][i]) > float::magnitude(self.matrix[pivot][i]) {
-                pivot = r;
-            }
-        }
-        pivot
-    }
-
-    // The pivot's row brought to row i, and the pivot.
+    // The first row from i on with the largest magnitude in column i brought to row i; its pivot.
     pub fn pivot(&mut self, i: usize) -> f64
         requires { i < self.old.order }
         ensures pivot { result ≡ cell self.new.matrix i i }
         ensures system { system_of self.new ≡ pivoted self.old.order i (system_of self.old) }
         ensures order { self.new.order ≡ self.old.order }
     {
-        let row = self.pivot_row(i);
-        self.matrix.swap(i, row);
-        self.right.swap(i, row);
+        let mut pivot = i;
+        // (the number of the row is what is looked for)
+        for r in i + 1..self.order {
+            if float::magnitude(self.matrix[r][i]) > float::magnitude(self.matrix[pivot][i]) {
+                pivot = r;
+            }
+        }
+        self.matrix.swap(i, pivot);
+        self.right.swap(i, pivot);
         self.matrix[i][i]
     }
 
@@ -77,7 +69,7 @@ impl Equations {
         ensures order { self.new.order ≡ self.old.order }
     {
         let pivot = self.matrix[i];
-        // By index: rows and right sides are two arrays, as they are lent, and an `iter_mut` that is zipped forgets what it wrote.
+        // By index: a turn writes a row and its right side, which are two arrays.
         for r in i + 1..self.order {
             let f = self.matrix[r][i] / pivot[i];
             less_row(&mut self.matrix[r], &pivot, i, self.order, f);
@@ -85,22 +77,15 @@ impl Equations {
         }
     }
 
-    // x[i] = (right - Σ row[j] × x[j], over j above i) / row[i].
-    fn unknown(&self, x: &Row, i: usize) -> f64
-        requires { i < self.now.order }
-        ensures { result ≡ unknown_of self.now.order (get_or self.now.matrix i []) (value self.now.right i) x.now i }
-    {
-        let row = &self.matrix[i];
-        less_known(row, x, i + 1, self.order, self.right[i]) / row[i]
-    }
-
-    // The unknowns, the last first.
+    // The unknowns, the last first: x[i] = (right[i] - Σ row[j] × x[j], over j above i) / row[i].
     pub fn back_substitute(&self) -> Row
         ensures { result ≡ substituted self.now.order (system_of self.now) }
     {
         let mut x = [0.0; ORDER_LIMIT];
+        // (by number: an unknown is worked from those above it)
         for i in (0..self.order).rev() {
-            x[i] = self.unknown(&x, i);
+            let row = &self.matrix[i];
+            x[i] = less_known(row, &x, i + 1, self.order, self.right[i]) / row[i];
         }
         x
     }

@@ -1,7 +1,7 @@
 // The normal equations of a fit, solved by Gaussian elimination with partial pivoting.
 #![tactic(auto)]
 
-mod equations; // a system, and what an elimination does to them
+mod equations; // a system, and what an elimination does to it
 
 ghost use Rattle.std.specs.Prelude.{◌≡◌};
 ghost use Rattle.solve.specs.Answer.{record_of, solved_of};
@@ -23,7 +23,8 @@ pub struct Solution {
     pub values: [f64; ORDER_LIMIT],
 }
 
-// The answer as C has it: a refusal's number; whether there is a solution, and the solution.
+// The answer as C has it: a refusal's number; whether there is a solution, and the solution. A number and a flag, since an exported record
+// holds no enum.
 #[repr(C)]
 #[derive(Clone, Copy)]
 pub struct Solved {
@@ -60,7 +61,7 @@ impl From<Result<Option<Solution>, Refusal>> for Solved {
     }
 }
 
-// x with a × x = b, of the first `order` equations; none where a pivot is too small.
+// x with a × x = b, of the first `order` equations; none where a pivot is too small. (Matrix and right side apart, as C lends them.)
 pub fn solve_normal(
     a: [[f64; ORDER_LIMIT]; ORDER_LIMIT],
     b: [f64; ORDER_LIMIT],
@@ -74,6 +75,7 @@ pub fn solve_normal(
         right: b,
         order,
     };
+    // (by number: column i is cleared below row i)
     for i in 0..order {
         if float::magnitude(equations.pivot(i)) < PIVOT_LIMIT {
             return Ok(None);

@@ -1,7 +1,7 @@
 -- `coefficients_of`: each in turn.
 use Rattle.std.proofs.Common.{◌∙◌, rules}
 use Rattle.float.specs.Reading.{both}
-use Rattle.fit.proofs.Made.{mapped, table-map}
+use Rattle.laws.proofs.Made.{mapped, table-map}
 use Rattle.fit.proofs.coefficients_of.Goals as goal
 
 pub returns : goal.returns

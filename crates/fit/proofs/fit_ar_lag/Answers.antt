@@ -25,17 +25,14 @@ geometry_of-requires c = fit-inside _ _ _ _ _ _ _ _ (sym c.in_ok-ask_fit.ensures
 pub show_frame-shown-requires : goal.show_frame-shown-requires
 show_frame-shown-requires c = rw c.geometry_of.ensures (fit-seen _ _ _ _ _ _ _ _ (sym c.in_ok-ask_fit.ensures)).0
 
-pub neighbour_count-count-requires : goal.neighbour_count-count-requires
-neighbour_count-count-requires c = (fit-seen _ _ _ _ _ _ _ _ (sym c.in_ok-ask_fit.ensures)).1
-
-pub luma_fit-requires : goal.luma_fit-requires
-luma_fit-requires c = (fit-seen _ _ _ _ _ _ _ _ (sym c.in_ok-ask_fit.ensures)).1
+pub invariant_of-lag : goal.invariant_of-lag
+invariant_of-lag c = record { few = (fit-seen _ _ _ _ _ _ _ _ (sym c.in_ok-ask_fit.ensures)).1 }
 
 pub slice_bounds-luma-end : goal.slice_bounds-luma-end
-slice_bounds-luma-end c = first-room both (fit-seen _ _ _ _ _ _ _ _ (sym c.in_ok-ask_fit.ensures)).1 c.neighbour_count-count.ensures c.luma_fit.result c.without_tap-luma.ensures
+slice_bounds-luma-end c = first-room both (fit-seen _ _ _ _ _ _ _ _ (sym c.in_ok-ask_fit.ensures)).1 c.neighbours-count.ensures c.luma_fit.result c.without_tap-luma.ensures
 
 pub slice_bounds-all_zero-end : goal.slice_bounds-all_zero-end
-slice_bounds-all_zero-end c = sym (length-take-le _ c.without_tap-luma.result (first-room both (fit-seen _ _ _ _ _ _ _ _ (sym c.in_ok-ask_fit.ensures)).1 c.neighbour_count-count.ensures c.luma_fit.result c.without_tap-luma.ensures))
+slice_bounds-all_zero-end c = sym (length-take-le _ c.without_tap-luma.result (first-room both (fit-seen _ _ _ _ _ _ _ _ (sym c.in_ok-ask_fit.ensures)).1 c.neighbours-count.ensures c.luma_fit.result c.without_tap-luma.ensures))
 
 pub returns-then-all_zero : goal.returns-then-all_zero
 returns-then-all_zero c =
@@ -44,11 +41,8 @@ returns-then-all_zero c =
     let g = c.geometry_of.ensures in
     let seen-is = S.luma ∙ ap (λ (h : Geometry). luma_seen h F.source.y.now F.denoised.y.now) g in
     let solved = c.without_tap-luma.ensures ∙ ap (first_of both) c.luma_fit.ensures in
-    let tested = c.all_zero.ensures ∙ front-zero (λ q. q.coefficient) c.without_tap-luma.result c.neighbour_count-count.result (first-room both (fit-seen _ _ _ _ _ _ _ _ (sym c.in_ok-ask_fit.ensures)).1 c.neighbour_count-count.ensures c.luma_fit.result c.without_tap-luma.ensures) in
-    none _ _ _ _ _ _ _ _ c.in_ok-ask_fit.ensures _ seen-is _ c.neighbour_count-count.ensures _ solved _ tested c.if-all_zero.true
-
-pub chroma_fit-requires : goal.chroma_fit-requires
-chroma_fit-requires c = (fit-seen _ _ _ _ _ _ _ _ (sym c.in_ok-ask_fit.ensures)).1
+    let tested = c.all_zero.ensures ∙ front-zero (λ q. q.coefficient) c.without_tap-luma.result c.neighbours-count.result (first-room both (fit-seen _ _ _ _ _ _ _ _ (sym c.in_ok-ask_fit.ensures)).1 c.neighbours-count.ensures c.luma_fit.result c.without_tap-luma.ensures) in
+    none _ _ _ _ _ _ _ _ c.in_ok-ask_fit.ensures _ seen-is _ c.neighbours-count.ensures _ solved _ tested c.if-all_zero.true
 
 pub returns : goal.returns
 returns c =
@@ -57,7 +51,7 @@ returns c =
     let g = c.geometry_of.ensures in
     let seen-is = S.luma ∙ ap (λ (h : Geometry). luma_seen h F.source.y.now F.denoised.y.now) g in
     let solved = c.without_tap-luma.ensures ∙ ap (first_of both) c.luma_fit.ensures in
-    let tested = c.all_zero.ensures ∙ front-zero (λ q. q.coefficient) c.without_tap-luma.result c.neighbour_count-count.result (first-room both (fit-seen _ _ _ _ _ _ _ _ (sym c.in_ok-ask_fit.ensures)).1 c.neighbour_count-count.ensures c.luma_fit.result c.without_tap-luma.ensures) in
-    some _ _ _ _ _ _ _ _ c.in_ok-ask_fit.ensures _ seen-is _ c.neighbour_count-count.ensures _ solved _ tested c.if-all_zero.false
+    let tested = c.all_zero.ensures ∙ front-zero (λ q. q.coefficient) c.without_tap-luma.result c.neighbours-count.result (first-room both (fit-seen _ _ _ _ _ _ _ _ (sym c.in_ok-ask_fit.ensures)).1 c.neighbours-count.ensures c.luma_fit.result c.without_tap-luma.ensures) in
+    some _ _ _ _ _ _ _ _ c.in_ok-ask_fit.ensures _ seen-is _ c.neighbours-count.ensures _ solved _ tested c.if-all_zero.false
     _ _ (S.cb ∙ ap (λ (h : Geometry). seen h.chroma F.source.cb.now F.denoised.cb.now) g) (S.cr ∙ ap (λ (h : Geometry). seen h.chroma F.source.cr.now F.denoised.cr.now) g)
     _ _ c.chroma_fit.ensures.cb c.chroma_fit.ensures.cr

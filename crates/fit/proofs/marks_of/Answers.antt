@@ -2,7 +2,7 @@
 use Rattle.std.proofs.Common.{◌∙◌, rules}
 use Rattle.float.specs.Mark.{number}
 use Rattle.float.specs.Reading.{both}
-use Rattle.fit.proofs.Made.{mapped, table-map}
+use Rattle.laws.proofs.Made.{mapped, table-map}
 use Rattle.fit.proofs.marks_of.Goals as goal
 
 pub returns : goal.returns

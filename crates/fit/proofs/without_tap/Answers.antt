@@ -2,7 +2,7 @@
 use Rattle.std.proofs.Common.{rules, get_or}
 use Rattle.float.specs.Reading.{both}
 use Rattle.fit.specs.Answer.{first_of}
-use Rattle.fit.proofs.Made.{made}
+use Rattle.laws.proofs.Made.{made}
 use Rattle.fit.proofs.without_tap.Goals as goal
 
 pub returns : goal.returns

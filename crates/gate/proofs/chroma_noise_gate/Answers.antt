@@ -14,11 +14,11 @@ returns-in_err-ask_gate c = let h = chroma-refused _ _ _ _ _ c.args.sigma16 c.in
 pub view_of-view-requires : goal.view_of-view-requires
 view_of-view-requires c = gate-inside _ CbCr _ _ _ _ (sym c.in_ok-ask_gate.ensures)
 
-pub seen-requires : goal.seen-requires
-seen-requires c = rw c.view_of-view.ensures (first-seen _ CbCr _ _ _ _ (sym c.in_ok-ask_gate.ensures))
+pub two_frames-requires-clause-first : goal.two_frames-requires-clause-first
+two_frames-requires-clause-first c = rw c.view_of-view.ensures (first-seen _ CbCr _ _ _ _ (sym c.in_ok-ask_gate.ensures))
 
-pub seen-requires-2 : goal.seen-requires-2
-seen-requires-2 c = rw c.view_of-view.ensures (second-seen _ CbCr _ _ _ _ (sym c.in_ok-ask_gate.ensures))
+pub two_frames-requires-clause-second : goal.two_frames-requires-clause-second
+two_frames-requires-clause-second c = rw c.view_of-view.ensures (second-seen _ CbCr _ _ _ _ (sym c.in_ok-ask_gate.ensures))
 
 pub returns : goal.returns
-returns c = rw (c.is_ok.ensures.value, c.chroma_finding.ensures, c.seen.ensures.shows, c.seen-2.ensures.shows) (chroma-answered _ _ _ _ _ _ c.in_ok-ask_gate.ensures refl c.view_of-view.ensures)
+returns c = rw (c.is_ok.ensures.value, c.chroma_finding.ensures, c.two_frames.ensures.first, c.two_frames.ensures.second) (chroma-answered _ _ _ _ _ _ c.in_ok-ask_gate.ensures refl c.view_of-view.ensures)

@@ -3,7 +3,7 @@ use Rattle.std.proofs.Common.{rules}
 use Rattle.std.specs.Float.{nan}
 use Rattle.float.specs.Reading.{quantise}
 use Rattle.fit.specs.Steps.{quantised}
-use Rattle.fit.proofs.Made.{mapped}
+use Rattle.laws.proofs.Made.{mapped}
 use Rattle.fit.proofs.coefficients.quantise.Goals as goal
 
 pub returns : goal.returns

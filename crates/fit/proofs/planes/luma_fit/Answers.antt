@@ -15,13 +15,13 @@ pub returns-then-nearest_i64_to_f64 : goal.returns-then-nearest_i64_to_f64
 returns-then-nearest_i64_to_f64 c =
     let r = c.neighbour_sum-energy in
     let S = seen-samples c.args.plane.now.seen in
-    let energy = energy-read _ _ S _ c.neighbour_sums.ensures _ c.neighbour_count-unknowns.ensures _ (record { sfits = r.type_inv }) r.ensures _ c.nearest_i64_to_f64.ensures in
+    let energy = energy-read _ _ S _ c.neighbour_sums.ensures _ c.neighbours-unknowns.ensures _ (record { sfits = r.type_inv }) r.ensures _ c.nearest_i64_to_f64.ensures in
     flat _ _ _ c.if-lag-eq0.false (sym c.too_small.ensures ∙ c.if-too_small.false) _ energy c.if-nearest_i64_to_f64.true
 
 pub returns : goal.returns
 returns c =
     let r = c.neighbour_sum-energy in
     let S = seen-samples c.args.plane.now.seen in
-    let energy = energy-read _ _ S _ c.neighbour_sums.ensures _ c.neighbour_count-unknowns.ensures _ (record { sfits = r.type_inv }) r.ensures _ c.nearest_i64_to_f64.ensures in
+    let energy = energy-read _ _ S _ c.neighbour_sums.ensures _ c.neighbours-unknowns.ensures _ (record { sfits = r.type_inv }) r.ensures _ c.nearest_i64_to_f64.ensures in
     solved _ _ _ c.if-lag-eq0.false (sym c.too_small.ensures ∙ c.if-too_small.false) _ energy c.if-nearest_i64_to_f64.false S
-    _ c.neighbour_sums.ensures.entries _ _ _ c.neighbour_count-unknowns.ensures _ c.coefficients.ensures
+    _ c.neighbour_sums.ensures.entries _ _ _ c.neighbours-unknowns.ensures _ c.coefficients.ensures

@@ -9,10 +9,10 @@ use Rattle.gate.proofs.sums.of_pair.Goals as goal
 
 pub returns : goal.returns
 returns c =
-    let p = c.args.first.now in
-    let q = c.args.second.now in
+    let p = c.args.frames.now.first in
+    let q = c.args.frames.now.second in
     let r = c.pair_sums-sums.ensures in
-    let size = c.requires in
+    let size = c.args.frames.now.alike in
     let second = r.second ∙ (λ i. sum_over (sym size.height i) (sym size.width i) (λ r c. noise_of (shown q) r c *ℤ noise_of (shown q) r c)) in
     record {
       second = c.nearest_i64_to_f64.ensures ∙ dot-is q.seen q.seen (search rules) ((again {w = w64} (self (record { sfits = search rules }))).eq ∙ second);

@@ -8,7 +8,7 @@ use Rattle.gate.proofs.sums.of_plane.Goals as goal
 pub overflow_cast-result : goal.overflow_cast-result
 overflow_cast-result c =
     let p = c.args.pair.now in
-    let squares = squares-are p.view p.source.now p.denoised.now c.args.shift c.plane_sums-sums.ensures.squares in
+    let squares = squares-are p.view p.source.now p.denoised.now c.args.shift.bits c.plane_sums-sums.ensures.squares in
     rw ((again {w = w64} (self (record { sfits = search rules }))).eq ∙ squares) (tt, held_fits (search rules) squares)
 
 pub returns : goal.returns
@@ -16,7 +16,7 @@ returns c =
     let p = c.args.pair.now in
     let r = c.plane_sums-sums.ensures in
     record {
-      squares = ap nat_abs ((again {w = w64} (self (record { sfits = search rules }))).eq ∙ squares-are p.view p.source.now p.denoised.now c.args.shift r.squares);
+      squares = ap nat_abs ((again {w = w64} (self (record { sfits = search rules }))).eq ∙ squares-are p.view p.source.now p.denoised.now c.args.shift.bits r.squares);
       energy = c.nearest_i64_to_f64.ensures ∙ dot-is p.seen p.seen (search rules) ((again {w = w64} (self (record { sfits = search rules }))).eq ∙ r.energy);
       lagged = c.nearest_i64_to_f64-2.ensures ∙ lagged-is p.seen c.args.lag ((again {w = w64} (self (record { sfits = search rules }))).eq ∙ r.lagged);
     }

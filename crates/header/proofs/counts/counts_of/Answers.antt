@@ -18,8 +18,8 @@ none : {a b : Bool} {m n o p q r : ℕ} → (a ≡ false) × ((b ≡ false) × (
     → ◌≡◌ {A = Counts} (record { coded = a; chroma = b; y_points = m; cb_points = n; cr_points = o; y_coeffs = p; cb_coeffs = q; cr_coeffs = r }) uncoded
 none h = rw (h.0, h.1.0, h.1.1.0, h.1.1.1.0, h.1.1.1.1.0, h.1.1.1.1.1.0, h.1.1.1.1.1.1.0, h.1.1.1.1.1.1.1) refl
 
-pub returns-then-not-coded : goal.returns-then-not-coded
-returns-then-not-coded c = none c.default.ensures ∙ sym (nothing (scalars c.args.f) (format_number c.args.format) c.if-not-coded.true)
+pub returns-then-not-f : goal.returns-then-not-f
+returns-then-not-f c = none c.default.ensures ∙ sym (nothing (scalars c.args.f) (format_number c.args.format) c.if-not-f.true)
 
 pub returns : goal.returns
 unfolding counts_of
@@ -28,17 +28,17 @@ returns c =
       c.kept-3.ensures.0,
       c.kept-2.ensures.0,
       c.kept.ensures.0,
-      c.from-4.ensures,
+      c.from-3.ensures,
       c.num_pos_luma-luma.ensures.0,
       c.kept-cr_points.ensures.0,
-      c.from-3.ensures,
-      c.kept-cb_points.ensures.0,
       c.from-2.ensures,
-      c.kept-y_points.ensures.0,
+      c.kept-cb_points.ensures.0,
       c.from.ensures,
       c.eq.ensures,
       is_yuv420 _,
       c.ne.ensures,
       is_monochrome _,
+      c.from-y_points.ensures,
+      c.if-not-f.false,
       with-tap _ _,
     )

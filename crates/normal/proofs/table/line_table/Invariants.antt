@@ -8,10 +8,10 @@ use Rattle.normal.proofs.table.line_table.Given as goal
 
 abbrev pub invariant-loop-b : goal.invariant-loop-b
 invariant-loop-b l =
-    (length l.table ≡ side l.lag * side l.lag)
-    × Reached (by_blocks (side l.lag) (start_sum (at (upper l.up l.lo)) (at l.lo) (length l.lo - 2 * l.lag))) l.fn.table l.table (l.a * side l.lag + l.b)
+    (length l.table ≡ side l.lag.reach * side l.lag.reach)
+    × Reached (by_blocks (side l.lag.reach) (start_sum (at (upper l.up l.lo)) (at l.lo) (length l.lo - 2 * l.lag.reach))) l.fn.table l.table (l.a * side l.lag.reach + l.b)
 
 abbrev pub invariant-loop-a : goal.invariant-loop-a
 invariant-loop-a l =
-    (length l.table ≡ side l.lag * side l.lag)
-    × Reached (by_blocks (side l.lag) (start_sum (at (upper l.up l.lo)) (at l.lo) (length l.lo - 2 * l.lag))) l.fn.table l.table (l.a * side l.lag)
+    (length l.table ≡ side l.lag.reach * side l.lag.reach)
+    × Reached (by_blocks (side l.lag.reach) (start_sum (at (upper l.up l.lo)) (at l.lo) (length l.lo - 2 * l.lag.reach))) l.fn.table l.table (l.a * side l.lag.reach)

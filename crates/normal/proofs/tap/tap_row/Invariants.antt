@@ -7,4 +7,4 @@ use Rattle.normal.proofs.tap.tap_row.Given as goal
 
 abbrev pub invariant-loop-u : goal.invariant-loop-u
 invariant-loop-u l =
-    (length l.line ≡ l.pair.view.width) × Tapping (noise_in l.pair) (at l.averages) l.pair.view.width l.lag l.y l.initial.row l.row l.u
+    (length l.line ≡ l.plane.pair.view.width) × Tapping (noise_in l.plane.pair) (at l.averages) l.plane.pair.view.width l.plane.lag.reach l.y l.initial.row l.row l.u

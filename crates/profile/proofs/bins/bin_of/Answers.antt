@@ -4,7 +4,7 @@ use Rattle.profile.proofs.Kept.{kept-line-small, kept-squares, nothing, everythi
 use Rattle.profile.proofs.bins.bin_of.Goals as goal
 
 pub line_squares-squares-requires-else-range : goal.line_squares-squares-requires-else-range
-line_squares-squares-requires-else-range c = kept-line-small c.args.j c.requires.binned _ c.requires.own_fits c.keep_bin-count.ensures.kept
+line_squares-squares-requires-else-range c = kept-line-small c.args.j c.requires.binned _ c.requires.own_fits c.keep_bin.ensures.kept
 
 pub returns-then-range-j-clause-count : goal.returns-then-range-j-clause-count
 returns-then-range-j-clause-count c = elim c.if-range-j.either [
@@ -26,4 +26,4 @@ returns-then-range-clause-squares c =
     c.line_squares-squares.ensures ∙ (everything c.args.line.now c.requires.range (omega arith) (omega arith) c.if-range.true c.requires.binned.same).1
 
 pub returns-else-range-clause-squares : goal.returns-else-range-clause-squares
-returns-else-range-clause-squares c = c.line_squares-squares-else-range.ensures ∙ kept-squares c.args.j c.requires.binned _ c.requires.own_fits c.keep_bin-count.ensures.kept
+returns-else-range-clause-squares c = c.line_squares-squares-else-range.ensures ∙ kept-squares c.args.j c.requires.binned _ c.requires.own_fits c.keep_bin.ensures.kept

@@ -22,18 +22,18 @@ loop-i-init c = (fill-starts _ _, refl)
 pub overflow_add-count : goal.overflow_add-count
 overflow_add-count c =
     let a = c.args in
-    let e = (λ k. c.loop-i.invariant.1 k + (c.from.ensures ∙ byte_is (eqb (get_or a.bins.now c.loop-i.i 0) a.j)) k) ∙ sum_more _ _ in
+    let e = (λ k. c.loop-i.invariant.1 k + (c.from-count.ensures ∙ byte_is (eqb (get_or a.bins.now c.loop-i.i 0) a.j)) k) ∙ sum_more _ _ in
     rw e (record { fits = omega (arith, count-le (λ k. get_or a.bins.now k 0) (c.loop-i.i + 1) a.j, c.requires.few) })
 
 pub loop-i-preserved : goal.loop-i-preserved
 loop-i-preserved c =
     let a = c.args in
     let i = c.loop-i.i in
-    let own : to_z w16 c.if-hit.own-bits ≡ cond (eqb (get_or a.bins.now i 0) a.j) (at a.line.now i) (pos 0) = elim c.if-hit.branch [
-      | then-hit w ↦ rw (eq-eqb _ _ w.if-hit.true) (w.own-is ∙ (again {w = w16} (self (record { sfits = search rules }))).eq)
-      | else-hit w ↦ rw (ne_eqb _ _ w.if-hit.false) w.own-is
+    let own : to_z w16 c.if-hit.kept-bits ≡ cond (eqb (get_or a.bins.now i 0) a.j) (at a.line.now i) (pos 0) = elim c.if-hit.branch [
+      | then-hit w ↦ rw (eq-eqb _ _ w.if-hit.true) (w.kept-is ∙ (again {w = w16} (self (record { sfits = search rules }))).eq)
+      | else-hit w ↦ rw (ne_eqb _ _ w.if-hit.false) w.kept-is
     ] in
-    let e = (λ k. c.loop-i.invariant.1 k + (c.from.ensures ∙ byte_is (eqb (get_or a.bins.now i 0) a.j)) k) ∙ sum_more _ _ in
+    let e = (λ k. c.loop-i.invariant.1 k + (c.from-count.ensures ∙ byte_is (eqb (get_or a.bins.now i 0) a.j)) k) ∙ sum_more _ _ in
     (fill-turn _ _ _ c.loop-i.invariant.0 (search rules) own, e)
 
 pub returns-clause-count : goal.returns-clause-count

@@ -27,42 +27,21 @@ invariant_of-y c =
     let p = c.args.frame.now.source in
     let q = c.args.frame.now.denoised in
     let seen = estimate-seen c.args.s p.y.now p.cb.now p.cr.now q.y.now q.cb.now q.cr.now c.in_ok-ask_frame.ensures refl c.view_of.ensures c.view_of-chroma.ensures in
-    record { seen = seen.0.seen }
-
-pub profile_of-requires : goal.profile_of-requires
-profile_of-requires c =
-    let p = c.args.frame.now.source in
-    let q = c.args.frame.now.denoised in
-    let seen = estimate-seen c.args.s p.y.now p.cb.now p.cr.now q.y.now q.cb.now q.cr.now c.in_ok-ask_frame.ensures refl c.view_of.ensures c.view_of-chroma.ensures in
-    (omega arith, (seen.0, (omega arith, refl)))
+    record { low = seen.0 }
 
 pub invariant_of-cb : goal.invariant_of-cb
 invariant_of-cb c =
     let p = c.args.frame.now.source in
     let q = c.args.frame.now.denoised in
     let seen = estimate-seen c.args.s p.y.now p.cb.now p.cr.now q.y.now q.cb.now q.cr.now c.in_ok-ask_frame.ensures refl c.view_of.ensures c.view_of-chroma.ensures in
-    record { seen = seen.1.seen }
-
-pub profile_of-requires-2 : goal.profile_of-requires-2
-profile_of-requires-2 c =
-    let p = c.args.frame.now.source in
-    let q = c.args.frame.now.denoised in
-    let seen = estimate-seen c.args.s p.y.now p.cb.now p.cr.now q.y.now q.cb.now q.cr.now c.in_ok-ask_frame.ensures refl c.view_of.ensures c.view_of-chroma.ensures in
-    (omega arith, (seen.1, (omega arith, refl)))
+    record { low = seen.1 }
 
 pub invariant_of-cr : goal.invariant_of-cr
 invariant_of-cr c =
     let p = c.args.frame.now.source in
     let q = c.args.frame.now.denoised in
     let seen = estimate-seen c.args.s p.y.now p.cb.now p.cr.now q.y.now q.cb.now q.cr.now c.in_ok-ask_frame.ensures refl c.view_of.ensures c.view_of-chroma.ensures in
-    record { seen = seen.2.seen }
-
-pub profile_of-requires-3 : goal.profile_of-requires-3
-profile_of-requires-3 c =
-    let p = c.args.frame.now.source in
-    let q = c.args.frame.now.denoised in
-    let seen = estimate-seen c.args.s p.y.now p.cb.now p.cr.now q.y.now q.cb.now q.cr.now c.in_ok-ask_frame.ensures refl c.view_of.ensures c.view_of-chroma.ensures in
-    (omega arith, (seen.2, (omega arith, refl)))
+    record { low = seen.2 }
 
 pub returns : goal.returns
 returns c =

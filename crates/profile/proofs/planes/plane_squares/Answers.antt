@@ -1,61 +1,61 @@
 -- `profile::planes::plane_squares`: a turn asks about a part and adds its squares; a part that is not low ends it.
-use Rattle.std.proofs.Common.{◌≡◌, Some, ◌+◌, ◌-◌, ◌≤◌, length, refl, sym, ap, ◌∙◌, arith}
+use Rattle.std.proofs.Common.{◌≡◌, Some, length, refl, sym, ap, ◌∙◌, inl, inr, arith, rules}
 use Rattle.laws.specs.Sums.{total}
-use Rattle.laws.proofs.SumsN.{sum_bound}
-use Rattle.profile.specs.Parts.{square_limit}
-use Rattle.profile.proofs.LowParts.{is-low, low-some, low-nothing, low-none, low-more, low-all, not_low, part_pair, part-more, square-part, square-small}
+use Rattle.profile.proofs.LowParts.{low-some, low-nothing, low-none, passed-fits, passed-all, next-copied, next-not-low, next-passed, left-alike}
 use Rattle.profile.proofs.StepSums.{plane-sum}
 use Rattle.profile.proofs.planes.plane_squares.Goals as goal
 
-pub loop-from-init : goal.loop-from-init
+pub loop-source-init : goal.loop-source-init
 unfolding total
-loop-from-init c = (refl, omega arith, low-none _ _ _, refl)
+loop-source-init c =
+    (search rules, search rules, record { count = 0; inside = omega arith; source-left = search rules; denoised-left = search rules; source-low = low-none _ _ _; sum-is = refl })
 
 pub part_squares-requires : goal.part_squares-requires
-part_squares-requires c = part_pair c.requires c.loop-from.from c.min.result (omega arith) (omega arith)
+part_squares-requires c =
+    let P = c.requires in
+    let H = c.loop-source.invariant in
+    let next = c.in-Some.ensures.steps in
+    let ls = rw H.0 at next.0.1.1 in
+    let ld = rw H.1 at next.1.1.1 in
+    next-copied P H.2 _ _ _ _ next.0.1.0 next.1.1.0 ls ld
 
 pub returns-in_err-sum : goal.returns-in_err-sum
 returns-in_err-sum c =
-    let e = not_low c.requires c.loop-from.from c.min.result (omega arith) (low-nothing _ _ c.in_err-sum.ensures) in
+    let P = c.requires in
+    let H = c.loop-source.invariant in
+    let next = c.in-Some.ensures.steps in
+    let ls = rw H.0 at next.0.1.1 in
+    let ld = rw H.1 at next.1.1.1 in
+    let e = next-not-low P H.2 _ _ _ _ next.0.1.0 next.1.1.0 ls ld (low-nothing _ _ c.in_err-sum.ensures) in
     rw e c.from_residual.ensures
 
 pub overflow_add-sum : goal.overflow_add-sum
 overflow_add-sum c =
     let P = c.requires in
-    let H = c.loop-from in
-    let m = c.min.result in
-    let inside : H.from + m ≤ length c.args.plane.source.now = omega arith in
+    let H = c.loop-source.invariant in
+    let next = c.in-Some.ensures.steps in
+    let ls = rw H.0 at next.0.1.1 in
+    let ld = rw H.1 at next.1.1.1 in
     let part = low-some _ c.in_ok-sum.ensures in
-    let low = low-more P H.from m inside H.invariant.2 (is-low _ _ _ part.0) in
-    let sum = (λ i. H.invariant.3 i + part.1 i) ∙ part-more P H.from m inside _ _ (square-part P H.from m inside (c.args.depth - 8)) in
-    rw sum (record { fits = omega (arith, P.few, inside, sum_bound square_limit _ _ (square-small P low)) })
+    record { fits = passed-fits P (next-passed P H.2 _ _ _ _ next.0.1.0 next.1.1.0 ls ld part.0 part.1) }
 
-pub loop-from-preserved : goal.loop-from-preserved
-loop-from-preserved c =
+pub loop-source-preserved : goal.loop-source-preserved
+loop-source-preserved c =
     let P = c.requires in
-    let H = c.loop-from in
-    let m = c.min.result in
-    let inside : H.from + m ≤ length c.args.plane.source.now = omega arith in
+    let H = c.loop-source.invariant in
+    let next = c.in-Some.ensures.steps in
+    let ls = rw H.0 at next.0.1.1 in
+    let ld = rw H.1 at next.1.1.1 in
     let part = low-some _ c.in_ok-sum.ensures in
-    let low = low-more P H.from m inside H.invariant.2 (is-low _ _ _ part.0) in
-    let sum = (λ i. H.invariant.3 i + part.1 i) ∙ part-more P H.from m inside _ _ (square-part P H.from m inside (c.args.depth - 8)) in
-    let e : m ≡ 256 = omega arith in
-    (refl, omega arith, rw e at low, rw e at sum)
+    (next.0.0 ∙ H.0, next.1.0 ∙ H.1, next-passed P H.2 _ _ _ _ next.0.1.0 next.1.1.0 ls ld part.0 part.1)
 
 pub returns : goal.returns
 returns c =
-    let H = c.loop-from in
-    let e : H.from ≡ length c.args.plane.source.now = omega arith in
-    rw (low-all c.requires (rw e at H.invariant.2)) (ap Some (rw e at H.invariant.3 ∙ sym (plane-sum _ _ _)))
-
-pub returns-in_ok-sum : goal.returns-in_ok-sum
-returns-in_ok-sum c =
     let P = c.requires in
-    let H = c.loop-from in
-    let m = c.min.result in
-    let inside : H.from + m ≤ length c.args.plane.source.now = omega arith in
-    let part = low-some _ c.in_ok-sum.ensures in
-    let low = low-more P H.from m inside H.invariant.2 (is-low _ _ _ part.0) in
-    let sum = (λ i. H.invariant.3 i + part.1 i) ∙ part-more P H.from m inside _ _ (square-part P H.from m inside (c.args.depth - 8)) in
-    let e : H.from + m ≡ length c.args.plane.source.now = omega arith in
-    rw (low-all P (rw e at low)) (ap Some (rw e at sum ∙ sym (plane-sum _ _ _)))
+    let H = c.loop-source.invariant in
+    let none : length c.loop-source.source-iterator.a.rest.now ≡ 0 = elim c.in-None.ensures.steps [
+      | inl h ↦ h.1.1.0
+      | inr h ↦ sym (left-alike P H.2) ∙ h.1.1.0
+    ] in
+    let all = passed-all P H.2 none in
+    rw all.0 (ap Some (all.1 ∙ sym (plane-sum _ _ _)))

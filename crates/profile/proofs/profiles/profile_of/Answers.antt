@@ -12,13 +12,14 @@ use Rattle.profile.proofs.profiles.profile_of.Goals as goal
 
 pub sum-requires-clause-fits : goal.sum-requires-clause-fits
 sum-requires-clause-fits g c =
-    let h : sum c.view_bins-bins.result.squares < 2 ^ 64 = rw added-up (bins-fit (shown-low c.requires.seen) c.args.bits c.view_bins-bins.ensures.squares) in
+    let h : sum c.view_bins-bins.result.squares < 2 ^ 64 = rw added-up (bins-fit (shown-low c.args.low.now.low) c.args.split.bits c.view_bins-bins.ensures.squares) in
     search (rules, chains)
 
 pub returns : goal.returns
 returns g c =
     let a = c.args in
-    let v = a.pair.now.view in
+    let p = a.low.now in
+    let v = p.view in
     let squares : c.sum.result ≡ sum c.view_bins-bins.result.squares = search (rules, chains) in
-    figures a.bits a.least (a.depth - 8) (viewed v a.pair.now.source.now) (viewed v a.pair.now.denoised.now) c.view_bins-bins.ensures.count c.view_bins-bins.ensures.squares (sym (viewed-length v a.pair.now.source.now))
-    (c.sigma16-sigma16.ensures ∙ ap (λ (s : ℕ). sigma16_of s (v.width * v.height)) (squares ∙ added-up _)) c.max-enough.ensures (length-replicate _ _ ∙ c.requires.bins) (fill-ends _ _ c.loop-j.invariant (le_trans (le_of_eq (length-replicate _ _)) c.loop-j-test.false))
+    figures a.split.bits a.least (p.depth - 8) (viewed v p.source.now) (viewed v p.denoised.now) c.view_bins-bins.ensures.count c.view_bins-bins.ensures.squares (sym (viewed-length v p.source.now))
+    (c.sigma16-sigma16.ensures ∙ ap (λ (s : ℕ). sigma16_of s (v.width * v.height)) (squares ∙ added-up _)) c.max-enough.ensures (length-replicate _ _ ∙ a.split.number) (fill-ends _ _ c.loop-j.invariant (le_trans (le_of_eq (length-replicate _ _)) c.loop-j-test.false))

@@ -5,4 +5,4 @@ use Rattle.profile.specs.Steps.{sigma_of_bin}
 use Rattle.profile.proofs.profiles.profile_of.Given as goal
 
 abbrev pub invariant-loop-j : goal.invariant-loop-j
-invariant-loop-j g l = Filled (λ k. sigma_of_bin l.enough l.sigma16 (get_or l.bins.squares k 0) (get_or l.bins.count k 0)) l.initial.own l.own l.j
+invariant-loop-j g l = Filled (λ k. sigma_of_bin l.enough l.sigma16 (get_or l.bins.squares k 0) (get_or l.bins.count k 0)) l.initial.figure-items l.figure-items l.j

@@ -5,4 +5,6 @@ use Rattle.profile.proofs.profiles.view_bins.Given as goal
 
 abbrev pub invariant-loop-r : goal.invariant-loop-r
 invariant-loop-r g l =
-    (l.bins.bits ≡ l.bits) × RowsAdded l.bits l.depth l.pair.view l.pair.source.now l.pair.denoised.now l.r (replicate (2 ^ l.bits) 0) (replicate (2 ^ l.bits) 0) l.bins.count l.bins.squares
+    let p = l.low in
+    let bits = l.initial.bins.split.bits in
+    (l.bins.split.bits ≡ bits) × RowsAdded bits p.depth p.view p.source.now p.denoised.now l.r (replicate (2 ^ bits) 0) (replicate (2 ^ bits) 0) l.bins.count l.bins.squares

@@ -2,7 +2,7 @@
 use Rattle.std.proofs.Common.{rules}
 use Rattle.fit.specs.Steps.{row_of, matrix_of}
 use Rattle.fit.specs.ExactSums.{cell_in}
-use Rattle.fit.proofs.Made.{made}
+use Rattle.laws.proofs.Made.{made}
 use Rattle.fit.proofs.equations.ExactSums.matrix.Goals as goal
 
 pub returns : goal.returns

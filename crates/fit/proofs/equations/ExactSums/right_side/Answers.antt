@@ -2,7 +2,7 @@
 use Rattle.std.proofs.Common.{rules}
 use Rattle.fit.specs.Steps.{value_of, right_of}
 use Rattle.fit.specs.ExactSums.{right_in}
-use Rattle.fit.proofs.Made.{made}
+use Rattle.laws.proofs.Made.{made}
 use Rattle.fit.proofs.equations.ExactSums.right_side.Goals as goal
 
 pub returns : goal.returns

@@ -7,19 +7,19 @@ use Rattle.header.proofs.bits.BitWriter.put.Goals as goal
 pub invariant_of-self : goal.invariant_of-self
 invariant_of-self c =
     let w = c.args.self.now.cursor in
-    record { short = c.if-count-lt8.true; low = (put_low w.count w.pending c.args.bits c.args.value _ w.short w.low c.requires.1 c.power-p.ensures.0).0 }
+    record { short = c.if-count-lt8.true; low = (put_low w.count w.pending c.args.bits c.args.value _ w.short w.low c.requires c.power-p.ensures.0).0 }
 
 pub put_first-requires : goal.put_first-requires
 put_first-requires c =
     let w = c.args.self.now.cursor in
-    let h = (put_low w.count w.pending c.args.bits c.args.value _ w.short w.low c.requires.1 c.power-p.ensures.0).0 in
+    let h = (put_low w.count w.pending c.args.bits c.args.value _ w.short w.low c.requires c.power-p.ensures.0).0 in
     let l : 8 + (w.count + c.args.bits - 8) ≡ w.count + c.args.bits = omega arith in
-    (c.requires.0, omega arith, rw l h)
+    (omega arith, rw l h)
 
 pub returns-then-count-lt8 : goal.returns-then-count-lt8
 returns-then-count-lt8 c =
     let e = c.power-p.ensures.0 in
-    record { same = refl; put = record { puts = λ from bs h. rw e (held_more h c.args.bits c.args.value) }; next = omega arith }
+    record { same = refl; put = λ from bs l h. rw e (held_more h c.args.bits c.args.value) }
 
 pub returns-else-count-lt8 : goal.returns-else-count-lt8
 returns-else-count-lt8 c =
@@ -28,6 +28,5 @@ returns-else-count-lt8 c =
     let l : w.count + c.args.bits ≡ w.count + c.args.bits - 8 + 8 = omega arith in
     record {
       same = c.put_first.ensures.same;
-      put = record { puts = λ from bs h. c.put_first.ensures.held from (bs ++ digits c.args.bits c.args.value) (rw e (rw l at (held_more h c.args.bits c.args.value))) };
-      next = omega arith;
+      put = λ from bs q h. c.put_first.ensures.held from (bs ++ digits c.args.bits c.args.value) q (rw e (rw l at (held_more h c.args.bits c.args.value)));
     }

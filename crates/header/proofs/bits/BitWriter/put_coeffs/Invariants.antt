@@ -6,4 +6,4 @@ use Rattle.header.specs.Text.{coeff}
 use Rattle.header.proofs.bits.BitWriter.put_coeffs.Given as goal
 
 abbrev pub invariant-loop-value : goal.invariant-loop-value
-invariant-loop-value l = Puts (bits_of (each l.value-index (coeff l.n l.values))) l.value-index l.initial.self l.self
+invariant-loop-value l = Puts (bits_of (each l.value-index (coeff l.n l.values))) l.initial.self l.self

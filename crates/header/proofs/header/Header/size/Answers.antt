@@ -17,20 +17,20 @@ pub returns : goal.returns
 unfolding size_of
 returns c = (
   rw (
-    c.kept-5.ensures.0,
     c.kept-4.ensures.0,
+    c.kept-3.ensures.0,
     c.min-6.ensures,
     c.min-5.ensures,
     c.min-4.ensures,
     c.min-3.ensures,
     c.min-2.ensures,
     c.min.ensures,
-    c.kept-3.ensures.0,
     c.kept-2.ensures.0,
     c.kept.ensures.0,
     c.opening_size-opening.ensures.0,
     c.ne.ensures,
     is_monochrome _,
+    c.if-not-self.false,
   ),
   omega arith,
 )

@@ -7,5 +7,5 @@ use Rattle.profile.proofs.bins.Bins.add_line.Given as goal
 abbrev pub invariant-loop-j : goal.invariant-loop-j
 invariant-loop-j g l =
     let b = l.initial.self in
-    (length l.own ≡ length l.initial.own) × (l.self.bits ≡ b.bits)
-    × Increasing (line_count l.bins) b.count l.self.count (2 ^ b.bits) l.j × Increasing (line_squares l.line l.bins) b.squares l.self.squares (2 ^ b.bits) l.j
+    (length l.own ≡ length l.initial.own) × (l.self.split.bits ≡ b.split.bits)
+    × Increasing (line_count l.bins) b.count l.self.count (2 ^ b.split.bits) l.j × Increasing (line_squares l.line l.bins) b.squares l.self.squares (2 ^ b.split.bits) l.j

@@ -1,5 +1,5 @@
 -- `profile::bins::Bins::add_part`: its lines have its bins.
-use Rattle.std.proofs.Common.{◌-◌, rules}
+use Rattle.std.proofs.Common.{◌-◌, refl, rules}
 use Rattle.profile.proofs.PartBins.{lines_are, bins-size, part-binned, part-added}
 use Rattle.profile.proofs.Tables.{bins-held}
 use Rattle.profile.proofs.bins.Bins.add_part.Goals as goal
@@ -7,16 +7,16 @@ use Rattle.profile.proofs.bins.Bins.add_part.Goals as goal
 pub add_line-requires : goal.add_line-requires
 add_line-requires g c =
     let a = c.args in
-    let p = a.pair.now in
-    let T = c.requires.room in
-    let L = lines_are p.source.now p.denoised.now a.start p.view.stride (a.depth - 8) (a.depth - a.self.now.bits) c.noise_line.ensures c.shifted_line.ensures c.bin_line.ensures c.requires.own_fits c.requires.bins_fit in
-    let size = bins-size c.requires.run T.narrow L in
-    (bins-held T.narrow (search rules), (part-binned c.requires.run T.narrow L c.requires.few, (search rules, rw size T)))
+    let p = a.low.now in
+    let split = a.self.now.split in
+    let L = lines_are p.source.now p.denoised.now a.start p.view.stride (p.depth - 8) (p.depth - split.bits) c.noise_line.ensures (rw c.depth_shift.ensures at c.shifted_line.ensures) (rw c.from.ensures at c.bin_line.ensures) a.lines.own_fits refl a.lines.bins_fit in
+    let size = bins-size c.requires.run split.narrow L in
+    (bins-held split.narrow split.number, (part-binned c.requires.run split.narrow L a.lines.few, (search rules, rw size c.requires.room)))
 
-pub returns-clause-added : goal.returns-clause-added
-returns-clause-added g c =
+pub returns : goal.returns
+returns g c =
     let a = c.args in
-    let p = a.pair.now in
-    let T = c.requires.room in
-    let L = lines_are p.source.now p.denoised.now a.start p.view.stride (a.depth - 8) (a.depth - a.self.now.bits) c.noise_line.ensures c.shifted_line.ensures c.bin_line.ensures c.requires.own_fits c.requires.bins_fit in
-    part-added c.requires.run T.narrow L c.add_line.ensures.added
+    let p = a.low.now in
+    let split = a.self.now.split in
+    let L = lines_are p.source.now p.denoised.now a.start p.view.stride (p.depth - 8) (p.depth - split.bits) c.noise_line.ensures (rw c.depth_shift.ensures at c.shifted_line.ensures) (rw c.from.ensures at c.bin_line.ensures) a.lines.own_fits refl a.lines.bins_fit in
+    record { bits = c.add_line.ensures.bits; tables = part-added c.requires.run split.narrow L c.add_line.ensures.tables }
