@@ -4,7 +4,7 @@ use crate::kind::Kind;
 use crate::numbers::Numbers;
 use frame::Shape;
 
-// What a line says. Whom memory is asked of is no part of that: `alloc` stands beside a case in the calls.
+// What a line says.
 #[derive(Clone, Copy)]
 pub struct Case {
     pub kind: Kind,

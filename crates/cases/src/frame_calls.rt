@@ -3,34 +3,39 @@ use crate::answer::Answer;
 use crate::case::Case;
 use crate::digest::Digest;
 use crate::plane::{Layout, PairNumber, Plane, Size};
+use crate::planes::{ROOM, ROW};
 use chroma_correlation::ChromaCorr;
 use denoise::PlanesMut;
 use fit::Fit;
 use profile::{ChromaProfile, LumaProfile, NoiseEstimate};
-use std::alloc::{AllocError, Global};
 
 // The destinations as a digest, after a refusal too.
-pub fn denoise_frame(alloc: Global, case: &Case) -> Result<Answer, AllocError> {
-    let planes = case.planes(alloc, Layout::Frame)?;
-    let mut y = case.copy(alloc, Plane::Denoised(PairNumber::First), Size::Luma)?;
-    let mut cb = case.copy(alloc, Plane::Denoised(PairNumber::Second), Size::Chroma)?;
-    let mut cr = case.copy(alloc, Plane::Denoised(PairNumber::Third), Size::Chroma)?;
+pub fn denoise_frame(case: &Case) -> Answer {
+    let mut row = [0; ROW];
+    let planes = case.planes(Layout::Frame, &mut row);
+    let mut y = [0; ROOM];
+    let mut cb = [0; ROOM];
+    let mut cr = [0; ROOM];
+    let of_y = case.copy(Plane::Denoised(PairNumber::First), Size::Luma, &mut y);
+    let of_cb = case.copy(Plane::Denoised(PairNumber::Second), Size::Chroma, &mut cb);
+    let of_cr = case.copy(Plane::Denoised(PairNumber::Third), Size::Chroma, &mut cr);
     let into = PlanesMut {
-        y: y.as_mut_slice(),
-        cb: cb.as_mut_slice(),
-        cr: cr.as_mut_slice(),
+        y: &mut y[..of_y],
+        cb: &mut cb[..of_cb],
+        cr: &mut cr[..of_cr],
     };
     let outcome = denoise::denoise_frame(case.shape(), &planes.source(), into);
     let digest = Digest::default()
-        .with_all(y.as_slice())
-        .with_all(cb.as_slice())
-        .with_all(cr.as_slice());
-    Ok(Answer::new(frame::number_of(&outcome), digest.finish()))
+        .with_all(&y[..of_y])
+        .with_all(&cb[..of_cb])
+        .with_all(&cr[..of_cr]);
+    Answer::new(frame::number_of(&outcome), digest.finish())
 }
 
 // Every sigma16 of a profile as a digest: of each plane, then of its bins.
-pub fn noise_estimate(alloc: Global, case: &Case) -> Result<Answer, AllocError> {
-    let planes = case.planes(alloc, Layout::Frame)?;
+pub fn noise_estimate(case: &Case) -> Answer {
+    let mut row = [0; ROW];
+    let planes = case.planes(Layout::Frame, &mut row);
     let estimate = NoiseEstimate::from(profile::noise_estimate(case.shape(), &planes.frame_pair()));
     let luma = estimate.luma;
     let cb = estimate.cb;
@@ -42,11 +47,11 @@ pub fn noise_estimate(alloc: Global, case: &Case) -> Result<Answer, AllocError> 
         .with_all(&cb.bin_sigma16)
         .with(cr.sigma16)
         .with_all(&cr.bin_sigma16);
-    Ok(Answer::new(estimate.refusal, digest.finish()).with_figure(estimate_figure(
+    Answer::new(estimate.refusal, digest.finish()).with_figure(estimate_figure(
         &luma,
         &cb,
         case.argument as usize,
-    )))
+    ))
 }
 
 // A figure of a profile: 0 to 7 that bin of luma, where it counts one sample; 8 to 11 a bin of Cb; 16 to 23 the sigma16 of a bin of luma,
@@ -66,8 +71,9 @@ fn bin_of_one(bin: usize, count: u64) -> u64 {
 }
 
 // Both coefficients and both marks in a digest.
-pub fn fit_chroma_corr(alloc: Global, case: &Case) -> Result<Answer, AllocError> {
-    let planes = case.planes(alloc, Layout::Frame)?;
+pub fn fit_chroma_corr(case: &Case) -> Answer {
+    let mut row = [0; ROW];
+    let planes = case.planes(Layout::Frame, &mut row);
     let lent = planes.frame_pair();
     let correlation = ChromaCorr::from(chroma_correlation::fit_chroma_corr(case.shape(), &lent));
     let digest = Digest::default()
@@ -75,12 +81,13 @@ pub fn fit_chroma_corr(alloc: Global, case: &Case) -> Result<Answer, AllocError>
         .with(correlation.cr)
         .with(correlation.cb_mark)
         .with(correlation.cr_mark);
-    Ok(Answer::new(correlation.refusal, digest.finish()))
+    Answer::new(correlation.refusal, digest.finish())
 }
 
 // Whether there is a fit, the count, the coefficients and their marks as a digest; the figure is whether there is one.
-pub fn fit_ar_lag(alloc: Global, case: &Case) -> Result<Answer, AllocError> {
-    let planes = case.planes(alloc, Layout::Frame)?;
+pub fn fit_ar_lag(case: &Case) -> Answer {
+    let mut row = [0; ROW];
+    let planes = case.planes(Layout::Frame, &mut row);
     let lag = case.argument as usize;
     let fit = Fit::from(fit::fit_ar_lag(case.shape(), &planes.frame_pair(), lag));
     let digest = Digest::default()
@@ -92,5 +99,5 @@ pub fn fit_ar_lag(alloc: Global, case: &Case) -> Result<Answer, AllocError> {
         .with_all(&fit.luma_marks)
         .with_all(&fit.cb_marks)
         .with_all(&fit.cr_marks);
-    Ok(Answer::new(fit.refusal, digest.finish()).with_figure(u64::from(fit.found)))
+    Answer::new(fit.refusal, digest.finish()).with_figure(u64::from(fit.found))
 }

@@ -2,18 +2,20 @@
 use crate::answer::Answer;
 use crate::case::Case;
 use crate::plane::{Layout, PairNumber};
-use std::alloc::{AllocError, Global};
+use crate::planes::ROW;
 
-pub fn film_grain_probe(alloc: Global, case: &Case) -> Result<Answer, AllocError> {
-    let planes = case.planes(alloc, Layout::Lumas)?;
+pub fn film_grain_probe(case: &Case) -> Answer {
+    let mut row = [0; ROW];
+    let planes = case.planes(Layout::Lumas, &mut row);
     let first = planes.pair(PairNumber::First);
     let second = planes.pair(PairNumber::Second);
-    Ok(Answer::of(gate::film_grain_probe(case.shape(), first, second)))
+    Answer::of(gate::film_grain_probe(case.shape(), first, second))
 }
 
-pub fn chroma_noise_gate(alloc: Global, case: &Case) -> Result<Answer, AllocError> {
-    let planes = case.planes(alloc, Layout::Chromas)?;
+pub fn chroma_noise_gate(case: &Case) -> Answer {
+    let mut row = [0; ROW];
+    let planes = case.planes(Layout::Chromas, &mut row);
     let first = planes.pair(PairNumber::First);
     let second = planes.pair(PairNumber::Second);
-    Ok(Answer::of(gate::chroma_noise_gate(case.shape(), first, second, case.argument)))
+    Answer::of(gate::chroma_noise_gate(case.shape(), first, second, case.argument))
 }

@@ -1,5 +1,5 @@
 // The planes of a recorded call, made from its numbers; the recorder makes the same ones.
-ghost use Rattle.std.specs.Prelude.{◌≡◌, ◌≢◌, ◌^◌, ◌≤◌, IfOk, IsNone, length, vec_len};
+ghost use Rattle.std.specs.Prelude.{◌≡◌, ◌≢◌, ◌^◌, ◌≤◌, IsNone, length};
 ghost use Rattle.cases.specs.Planes.{IsDepth, IsWithinOne, samples_of, room_of, pair_of, size_of};
 
 use crate::case::Case;
@@ -8,22 +8,24 @@ use crate::fault::Fault;
 use crate::kind::Level;
 use crate::plane::{Layout, PairNumber, Plane, Size};
 use crate::sample::top_of;
-use std::alloc::{AllocError, Global};
 
 // Room for the largest recorded plane, and a sample more.
-const ROOM: usize = 8256;
+pub const ROOM: usize = 8256;
+
+// Room for all planes.
+pub const ROW: usize = 6 * ROOM;
 
 // All planes of a call in a row, each with a room of its own. Samples that are more than a room holds go on into the rooms behind, until
-// the planes of those are written; more than are left to the end of the row, and the plane isn't written.
-#[derive(Drop)]
-pub struct Planes {
+// the planes of those are written; more than are left to the end of the row, and the plane isn't written. In fixed memory that is lent, so
+// that no call runs out of it.
+#[derive(Clone, Copy)]
+pub struct Planes<'a> {
     case: Case,
     layout: Layout,
-    row: Vec<u16>,
-    ghost whole: { vec_len row ≡ 49536 },
+    row: &'a [u16; ROW],
 }
 
-impl Planes {
+impl Planes<'_> {
     pub fn pair(&self, pair: PairNumber) -> frame::Pair<'_> {
         frame::Pair {
             source: self.plane(Plane::Source(pair)),
@@ -59,7 +61,8 @@ impl Planes {
     {
         let start = plane.place() * ROOM;
         let count = self.case.lent(plane, self.layout.size(plane.pair()));
-        &self.row[start..start + count]
+        let row = self.row;
+        &row[start..start + count]
     }
 }
 
@@ -71,8 +74,8 @@ fn above_top(depth: u8) -> u16
 }
 
 impl Case {
-    pub fn planes(&self, alloc: Global, layout: Layout) -> Result<Planes, AllocError> {
-        let mut row = vec![in alloc; 0; Plane::ALL.len() * ROOM]?;
+    // All planes, in a row of zeros.
+    pub fn planes<'a>(&self, layout: Layout, row: &'a mut [u16; ROW]) -> Planes<'a> {
         for plane in Plane::ALL {
             self.write(
                 plane,
@@ -80,23 +83,21 @@ impl Case {
                 &mut row[plane.place() * ROOM..],
             );
         }
-        Ok(Planes {
+        Planes {
             case: *self,
             layout,
             row,
-        })
+        }
     }
 
-    // What is lent of a plane by itself, for a call to write over. Plane and size stay apart: faults, draws and noises ask the plane alone, `samples` and `columns` the size alone, so that a struct of both would only be taken apart.
-    pub fn copy(&self, alloc: Global, plane: Plane, size: Size) -> Result<Vec<u16>, AllocError>
-        ensures sound { IsNone self.now.fault → IfOk result (λ samples. vec_len samples ≡ room_of self.now size) }
-        ensures near { IfOk result (λ samples. IsWithinOne (room_of self.now size) (vec_len samples)) }
-        ensures room { IfOk result (λ samples. vec_len samples ≤ 8256) }
+    // A plane by itself, for a call to write over, into a room of zeros: how many samples of it are lent. Plane and size stay apart: faults, draws and noises ask the plane alone, `samples` and `columns` the size alone, so that a struct of both would only be taken apart.
+    pub fn copy(&self, plane: Plane, size: Size, room: &mut [u16; ROOM]) -> usize
+        ensures sound { IsNone self.now.fault → result ≡ room_of self.now size }
+        ensures near { IsWithinOne (room_of self.now size) result }
+        ensures room { result ≤ 8256 }
     {
-        let mut samples = vec![in alloc; 0; ROOM]?;
-        self.write(plane, size, samples.as_mut_slice());
-        samples.truncate(self.lent(plane, size));
-        Ok(samples)
+        self.write(plane, size, room);
+        self.lent(plane, size)
     }
 
     // Writes the samples of a plane, and one more, where there is room for them; the middle one is too high where the fault asks for it.

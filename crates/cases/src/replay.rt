@@ -33,17 +33,12 @@ fn difference(answer: Outcome, recorded: Outcome) -> usize
 }
 
 // How many differences a line has: where its answer is another than the recorded one, both are written. (No fact joins the handle and the call.)
-fn replay_line<R: Print + AllocGlobal>(
-    rt: &R,
-    call: Call,
-    number: usize,
-    line: &[u8],
-) -> anyhow::Result<usize>
+fn replay_line<R: Print>(rt: &R, call: Call, number: usize, line: &[u8]) -> anyhow::Result<usize>
     ensures { IfOk result (λ n. n ≤ 1) }
 {
     let mut numbers = Numbers::of(line);
     let recorded = Outcome::read(&mut numbers);
-    let answer = answer(rt.alloc(), call, &mut numbers)?.outcome;
+    let answer = answer(call, &mut numbers).outcome;
     let differences = difference(answer, recorded);
     if differences > 0 {
         println!(rt; "{call} line {number} {answer}")?;
@@ -53,7 +48,7 @@ fn replay_line<R: Print + AllocGlobal>(
 }
 
 // Every line of a list.
-fn compare<R: Print + AllocGlobal>(rt: &R, call: Call, list: &[u8]) -> anyhow::Result<Counts> {
+fn compare<R: Print>(rt: &R, call: Call, list: &[u8]) -> anyhow::Result<Counts> {
     let mut calls = 0;
     let mut differences = 0;
     for line in Lines::of(list) {

@@ -13,7 +13,6 @@ use crate::bytes::split_once;
 use crate::call::Call;
 use crate::numbers::Numbers;
 use crate::reads::read;
-use std::alloc::{AllocError, Global};
 
 // What is shown of an answer.
 #[derive(Clone, Copy)]
@@ -75,18 +74,18 @@ impl From<u64> for Question {
 }
 
 // The figure of a worked case, which asks its question where a recorded call has its value.
-fn worked(alloc: Global, numbers: &mut Numbers<'_>) -> Result<u64, AllocError> {
+fn worked(numbers: &mut Numbers<'_>) -> u64 {
     let question = Question::from(Outcome::read(numbers).value);
-    Ok(match question {
-        Question::Call(call, part) => part.of(answer(alloc, call, numbers)?),
+    match question {
+        Question::Call(call, part) => part.of(answer(call, numbers)),
         Question::Read => read(numbers),
-    })
+    }
 }
 
 // A worked case's line: its name, a colon and its numbers; one with no colon is a name. A name is written as its bytes are.
-pub fn show<R: Print + AllocGlobal>(rt: &R, line: &[u8]) -> anyhow::Result<()> {
+pub fn show<R: Print>(rt: &R, line: &[u8]) -> anyhow::Result<()> {
     let (name, numbers) = split_once(line, b':');
-    let figure = worked(rt.alloc(), &mut Numbers::of(numbers))?;
+    let figure = worked(&mut Numbers::of(numbers));
     rt.write_all(name)?;
     println!(rt; ": {figure}")?;
     Ok(())

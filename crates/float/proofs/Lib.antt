@@ -1,4 +1,5 @@
 -- The theorems that other crates may cite are `pub`; the others serve them and the proofs of the functions.
+mod WithoutSign
 mod Zero
 mod Unique
 mod Units

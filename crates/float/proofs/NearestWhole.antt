@@ -2,11 +2,11 @@
 -- * The nearest number to a / c is the quotient of 2a + c by 2c.
 -- * From 2 ^ 53 on an f64 is whole already. Below, the number has 53 digits at most. So it is an f64, and rounding it to one changes nothing.
 -- Assumes nothing.
-use Rattle.std.proofs.Common.{◌≡◌, ℕ, suc, ◌+◌, ◌-◌, ◌*◌, ◌/◌, ◌%◌, ◌^◌, ◌<◌, ◌≤◌, Bool, T, ℤ, pos, negsuc, sym, ap, ◌∙◌, subst, le_of_suc-le-suc, mul-le-mul_right, mod-lt, mul_assoc, mul_comm, div-lt_iff_lt-mul, add-mul, one-mul, div-add-mod', mul-one, mul_left_comm, arith, pow_pos}
+use Rattle.std.proofs.Common.{◌≡◌, ℕ, suc, ◌+◌, ◌-◌, ◌*◌, ◌/◌, ◌%◌, ◌^◌, ◌<◌, ◌≤◌, Bool, T, ℤ, pos, negsuc, sym, refl, ap, ◌∙◌, subst, le_of_suc-le-suc, mul-le-mul_right, mod-lt, mul_assoc, mul_comm, div-lt_iff_lt-mul, add-mul, one-mul, div-add-mod', mul-one, mul_left_comm, arith, lit<, pow_pos}
 use lib.Ieee.{Float, nan, inf, fin, binary64, up, down, round, fits}
-use lib.Ieee.Fits.{down_pos}
+use lib.Ieee.Fits.{down_pos, round-fits}
 use lib.Ieee.Exact.{HasValue}
-use lib.Ieee.Back.{round_whole}
+use lib.Ieee.Back.{round_whole, whole_unique}
 use lib.Ieee.Nearest.{div_same}
 use Rattle.float.specs.Round.{half_up, round_half_away, NearestWhole}
 use Rattle.float.proofs.Units.{Fit, fit}
@@ -77,3 +77,12 @@ round-nearest (fin r m e) s a c t C v = (
       (subst (λ (b : Bool). HasValue (round_half_away (fin r m e)) b (half_up (m * up e) (down e)) 1) v.0 (whole-value r m e (fit r m e t))),
   half-nearest a c C,
 )
+
+-- a whole number is its own nearest
+pub whole-stays : (x : Float) (s : Bool) (c : ℕ) → T (fits binary64 x) → HasValue x s c 1 → x ≡ round_half_away x
+unfolding round_half_away
+whole-stays nan s c t v = refl
+whole-stays (inf r) s c t v = refl
+whole-stays (fin r m e) s c t v =
+    whole_unique binary64 (fin r m e) (round_half_away (fin r m e)) s c t (round-fits binary64 r _ 1) v
+    (subst (λ (k : ℕ). HasValue (round_half_away (fin r m e)) s k 1) (at-whole c) (round-nearest (fin r m e) s c 1 t (lit< tt) v).0)

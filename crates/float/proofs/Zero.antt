@@ -1,11 +1,17 @@
--- What comparing a float with 0 says: it is above zero, or a zero. Assumes nothing.
-use Rattle.std.proofs.Common.{◌≡◌, ℕ, zero, suc, ◌*◌, ◌<◌, Bool, true, false, ◌&&◌, ◌||◌, eqb, ltb, sym, refl, ap, ◌∙◌, zero-lt-suc, mul-pos, zero-mul, arith, lt-ltb, ne_eqb}
+-- What comparing a float with 0 says: it is below zero, above zero or a zero. Assumes nothing.
+use Rattle.std.proofs.Common.{◌≡◌, ℕ, zero, suc, ◌+◌, ◌*◌, ◌<◌, Bool, true, false, ◌&&◌, ◌||◌, eqb, ltb, sym, refl, ap, ◌∙◌, zero-lt-suc, mul-pos, zero-mul, arith, le-ltb, lt-ltb, ne_eqb}
 use mathlib.Core.Bool.{beq}
 use lib.Dec.{eqb-suc-zero}
 use lib.Ieee.{Float, nan, inf, fin, up, down, lt, eq, of_bits}
 use lib.Ieee.Fits.{up_pos}
 use lib.Ieee.Positive.{above}
 use Rattle.laws.specs.Scaled.{plus_zero}
+
+abbrev pub under : Float → Bool
+under nan = false
+under (inf s) = s
+under (fin false m e) = false
+under (fin true m e) = ltb 0 m
 
 abbrev pub null : Float → Bool
 null nan = false
@@ -18,6 +24,15 @@ some zero u z U e = rw (e, zero-mul u)
 some (suc m) u z U e =
     let p : 0 < suc m * u = mul-pos (zero-lt-suc m) U in
     lt-ltb z (suc m * u * 1) (omega arith) ∙ sym (lt-ltb 0 (suc m) (zero-lt-suc m))
+
+pub lt-zero : (x : Float) → lt x plus_zero ≡ under x
+unfolding lt of_bits
+lt-zero nan = refl
+lt-zero (inf s) = refl
+lt-zero (fin true m e) =
+    let h : m * up e * 1 + 0 * down e ≡ m * up e * 1 = omega (arith, zero-mul (down e)) in
+    ap (ltb 0) h ∙ some m (up e) 0 (up_pos e) refl
+lt-zero (fin false m e) = le-ltb (m * up e * 1) (0 * down e) (omega (arith, zero-mul (down e)))
 
 pub zero-lt : (x : Float) → lt plus_zero x ≡ above x
 unfolding lt of_bits

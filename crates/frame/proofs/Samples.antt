@@ -1,7 +1,7 @@
 -- "Is every source and denoised sample below 2^depth?": the test is true exactly when each sample is. By induction over the plane. Assumes nothing.
 use mathlib.Core.Path.{◌≡◌, refl}
-use mathlib.Core.Bool.{true, and-eq-true_iff}
-use mathlib.Core.List.{List, [], ◌∷◌}
+use mathlib.Core.Bool.{Bool, true, ◌&&◌, and_assoc, and-eq-true_iff}
+use mathlib.Core.List.{List, [], ◌∷◌, ◌++◌}
 use mathlib.Core.Logic.{◌↔◌}
 use Prim.Native.Nat.{ℕ, zero, suc, ◌<◌, ◌^◌, suc-le-suc}
 use native.Mathlib.Omega.{arith}
@@ -9,7 +9,7 @@ use lib.Dec.{ltb}
 use lib.ListN.{length, get_or}
 use lib.Pow.{pow_pos}
 use borrow.Author.Tests.{ltb-true, lt-ltb}
-use Rattle.frame.specs.Questions.{low}
+use Rattle.frame.specs.Questions.{low, all_low}
 
 -- past the end stands 0
 pub low_below : (depth : ℕ) (xs : List ℕ) → low depth xs ≡ true → (i : ℕ) → get_or xs i 0 < 2 ^ depth
@@ -26,3 +26,10 @@ below-low depth (x ∷ xs) h =
 
 pub low-exactly : (depth : ℕ) (xs : List ℕ) → (low depth xs ≡ true) ↔ ((i : ℕ) → i < length xs → get_or xs i 0 < 2 ^ depth)
 low-exactly depth xs = (λ h i p. low_below depth xs h i, below-low depth xs)
+
+-- the answers for two lists of planes
+pub low-both : (depth : ℕ) (ps qs : List (List ℕ)) {r r' : Bool} → r ≡ all_low depth ps → r' ≡ all_low depth qs → (r && r') ≡ all_low depth (ps ++ qs)
+unfolding all_low
+low-both depth [] qs e e' = rw (e, e')
+low-both depth (p ∷ ps) qs e e' =
+    rw (e, and_assoc (low depth p) (all_low depth ps), low-both depth ps qs refl e')

@@ -54,8 +54,13 @@ row-le s component h = let l : s.active.top ≤ side_limit = omega (arith, h.dow
 pub row_fits : (s : Shape) (component : Component) {top step : ℕ} → Inside s → top ≡ (active_of s component).top → step ≡ width_of s component → Fits w64 (top * step)
 row_fits s component h a b = rw (a, b) (record { fits = lt_of_le_of_lt (row-le s component h) (lit< tt) })
 
-pub start_fits : (s : Shape) (component : Component) {top step left : ℕ} → Inside s → top ≡ (active_of s component).top → step ≡ width_of s component → left ≡ (active_of s component).left
+-- its place, of any row's length
+pub start_fits : {w top left : ℕ} → w ≤ side_limit → top ≤ side_limit → left ≤ side_limit → Fits w64 (top * w + left)
+start_fits {w} {top} {left} a b c = record { fits = lt_of_le_of_lt (add-le-add (area-le side_limit b a) c) (lit< tt) }
+
+pub active_fits : (s : Shape) (component : Component) {top step left : ℕ} → Inside s → top ≡ (active_of s component).top → step ≡ width_of s component → left ≡ (active_of s component).left
     → Fits w64 (top * step + left)
-start_fits s component h a b c =
+active_fits s component h a b c =
+    let t : s.active.top ≤ side_limit = omega (arith, h.down, h.high) in
     let l : s.active.left ≤ side_limit = omega (arith, h.across, h.wide) in
-    rw (a, b, c) (record { fits = lt_of_le_of_lt (add-le-add (row-le s component h) (columns-le s.format component l)) (lit< tt) })
+    rw (a, b, c) (start_fits (columns-le s.format component h.wide) (rows-le s.format component t) (columns-le s.format component l))

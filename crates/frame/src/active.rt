@@ -6,7 +6,7 @@ ghost use Rattle.frame.specs.Inside.{Inside};
 use crate::{Component, Geometry, Shape, View};
 
 // Of a plane.
-#[tactic(auto, using(crate::proofs::Size::row_fits, crate::proofs::Size::start_fits))]
+#[tactic(auto, using(crate::proofs::Size::row_fits, crate::proofs::Size::active_fits))]
 pub fn view_of(s: Shape, component: Component) -> View
     requires { Inside s }
     ensures { result ≡ view_of s component }

@@ -77,5 +77,7 @@ pub extern "C" fn grain_random_step(register: RandomRegister, bits: u32) -> Step
 pub extern "C" fn grain_random_next(register: &mut RandomRegister, bits: u32) -> DrawRecord
     ensures { (result, register.new) ≡ of_next (step register.old bits) }
 {
-    register.next(bits).into()
+    let stepped = register.stepped(bits);
+    *register = stepped.register;
+    stepped.draw.into()
 }

@@ -1,4 +1,4 @@
--- The laws of `of_scaled`: it is exact up to 2 ^ 53, and sums, differences, products and quotients by 2 ^ j of such numbers are such numbers.
+-- The laws of `of_scaled`: it is exact up to 2 ^ 53, and sums, differences, products, squares and quotients by 2 ^ j of such numbers are such numbers.
 -- Each operation is the rounding of the exact result, and the signs decide the rest. Assumes nothing.
 use mathlib.Core.Path.{◌≡◌, refl, sym, ap, ◌∙◌, subst}
 use mathlib.Core.Bool.{Bool, true, false, not, cond, ◌&&◌}
@@ -160,6 +160,19 @@ module _ (j k : ℕ) (a b : ℤ) (x y : Float) (v : Holds j a x) (w : Holds k b 
         (scaled-val binary64 (unlike v.sign w.sign) (v.size * w.size) (j + k)
         (subst (λ (n : ℕ). n ≤ 2 ^ 53) (sym (ap nat_abs mul-whole) ∙ abs-signed (unlike v.sign w.sign) (v.size * w.size)) h) g);
   }
+
+-- a square, which is never minus zero
+pub square-scaled : (k : ℕ) (a : ℤ) (x : Float) → Holds k a x → mul binary64 x x ≡ of_scaled (k + k) (a *ℤ a)
+unfolding of_scaled
+square-scaled k a x v =
+    let e : unlike v.sign v.sign ≡ false = alike v.sign in
+    mul-round k k a a x x v v
+    ∙ ap (λ (s : Bool). round binary64 s (v.size * v.size) (2 ^ (k + k))) e
+    ∙ ap (λ (z : ℤ). of_scaled (k + k) z) (sym (ap (λ (s : Bool). signed s (v.size * v.size)) e) ∙ mul-whole k k a a x x v v)
+  where
+    alike : (s : Bool) → unlike s s ≡ false
+    alike true = refl
+    alike false = refl
 
 -- ---- the quotient by 2 ^ j
 plain : (s : Bool) → unlike s false ≡ s
