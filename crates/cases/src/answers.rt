@@ -3,20 +3,35 @@ use crate::answer::Answer;
 use crate::call::Call;
 use crate::case::Case;
 use crate::numbers::Numbers;
+use crate::plane::Layout;
+use crate::planes::{Planes, ROW};
 use crate::systems::System;
 use crate::{frame_calls, gate_calls, number_calls, plane_calls};
 
+// A call on the planes that its numbers make.
+fn on_planes<F: Fn(&Planes<'_>) -> Answer>(
+    numbers: &mut Numbers<'_>,
+    layout: Layout,
+    call: F,
+) -> Answer
+    requires { F.IsAlwaysCallable call }
+{
+    let case = Case::read(numbers);
+    let mut row = [0; ROW];
+    call(&case.planes(layout, &mut row))
+}
+
 pub fn answer(call: Call, numbers: &mut Numbers<'_>) -> Answer {
     match call {
-        Call::DenoisePlane => plane_calls::denoise_plane(&Case::read(numbers)),
-        Call::PlaneSigma16 => plane_calls::plane_sigma16(&Case::read(numbers)),
-        Call::LagHRho => plane_calls::lag_h_rho(&Case::read(numbers)),
-        Call::FilmGrainProbe => gate_calls::film_grain_probe(&Case::read(numbers)),
-        Call::ChromaNoiseGate => gate_calls::chroma_noise_gate(&Case::read(numbers)),
-        Call::DenoiseFrame => frame_calls::denoise_frame(&Case::read(numbers)),
-        Call::NoiseEstimate => frame_calls::noise_estimate(&Case::read(numbers)),
-        Call::FitChromaCorr => frame_calls::fit_chroma_corr(&Case::read(numbers)),
-        Call::FitArLag => frame_calls::fit_ar_lag(&Case::read(numbers)),
+        Call::DenoisePlane => on_planes(numbers, Layout::Frame, plane_calls::denoise_plane),
+        Call::PlaneSigma16 => on_planes(numbers, Layout::Frame, plane_calls::plane_sigma16),
+        Call::LagHRho => on_planes(numbers, Layout::Frame, plane_calls::lag_h_rho),
+        Call::FilmGrainProbe => on_planes(numbers, Layout::Lumas, gate_calls::film_grain_probe),
+        Call::ChromaNoiseGate => on_planes(numbers, Layout::Chromas, gate_calls::chroma_noise_gate),
+        Call::DenoiseFrame => on_planes(numbers, Layout::Frame, frame_calls::denoise_frame),
+        Call::NoiseEstimate => on_planes(numbers, Layout::Frame, frame_calls::noise_estimate),
+        Call::FitChromaCorr => on_planes(numbers, Layout::Frame, frame_calls::fit_chroma_corr),
+        Call::FitArLag => on_planes(numbers, Layout::Frame, frame_calls::fit_ar_lag),
         Call::ArPositions => number_calls::ar_positions(numbers.read()),
         Call::SolveNormal => {
             let system = System::from(numbers.read::<u64>());
@@ -24,6 +39,6 @@ pub fn answer(call: Call, numbers: &mut Numbers<'_>) -> Answer {
         }
         Call::QuantAr => number_calls::quant_ar(numbers.read()),
         Call::GrainSeedFor => number_calls::grain_seed_for(numbers.read()),
-        Call::RandomRegister => { number_calls::random_register(numbers.read(), numbers.read()) }
+        Call::RandomRegister => number_calls::random_register(numbers.read(), numbers.read()),
     }
 }

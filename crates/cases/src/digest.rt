@@ -64,7 +64,8 @@ impl Digest {
         Digest(b ^ (b << 17))
     }
 
-    // Each of more values, in order.
+    // Each of more values, in order. Never inlined: the lists of an answer have a known length, and would be written out value by value, 11 KB of program.
+    #[inline(never)]
     pub fn with_all<W: Word>(self, values: &[W]) -> Self {
         values
             .iter()

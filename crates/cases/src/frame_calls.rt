@@ -1,18 +1,16 @@
 // What the calls on a frame answer.
 use crate::answer::Answer;
-use crate::case::Case;
 use crate::digest::Digest;
-use crate::plane::{Layout, PairNumber, Plane, Size};
-use crate::planes::{ROOM, ROW};
+use crate::plane::{PairNumber, Plane, Size};
+use crate::planes::{Planes, ROOM};
 use chroma_correlation::ChromaCorr;
 use denoise::PlanesMut;
 use fit::Fit;
 use profile::{ChromaProfile, LumaProfile, NoiseEstimate};
 
 // The destinations as a digest, after a refusal too.
-pub fn denoise_frame(case: &Case) -> Answer {
-    let mut row = [0; ROW];
-    let planes = case.planes(Layout::Frame, &mut row);
+pub fn denoise_frame(planes: &Planes<'_>) -> Answer {
+    let case = &planes.case;
     let mut y = [0; ROOM];
     let mut cb = [0; ROOM];
     let mut cr = [0; ROOM];
@@ -33,9 +31,8 @@ pub fn denoise_frame(case: &Case) -> Answer {
 }
 
 // Every sigma16 of a profile as a digest: of each plane, then of its bins.
-pub fn noise_estimate(case: &Case) -> Answer {
-    let mut row = [0; ROW];
-    let planes = case.planes(Layout::Frame, &mut row);
+pub fn noise_estimate(planes: &Planes<'_>) -> Answer {
+    let case = &planes.case;
     let estimate = NoiseEstimate::from(profile::noise_estimate(case.shape(), &planes.frame_pair()));
     let luma = estimate.luma;
     let cb = estimate.cb;
@@ -71,9 +68,8 @@ fn bin_of_one(bin: usize, count: u64) -> u64 {
 }
 
 // Both coefficients and both marks in a digest.
-pub fn fit_chroma_corr(case: &Case) -> Answer {
-    let mut row = [0; ROW];
-    let planes = case.planes(Layout::Frame, &mut row);
+pub fn fit_chroma_corr(planes: &Planes<'_>) -> Answer {
+    let case = &planes.case;
     let lent = planes.frame_pair();
     let correlation = ChromaCorr::from(chroma_correlation::fit_chroma_corr(case.shape(), &lent));
     let digest = Digest::default()
@@ -85,9 +81,8 @@ pub fn fit_chroma_corr(case: &Case) -> Answer {
 }
 
 // Whether there is a fit, the count, the coefficients and their marks as a digest; the figure is whether there is one.
-pub fn fit_ar_lag(case: &Case) -> Answer {
-    let mut row = [0; ROW];
-    let planes = case.planes(Layout::Frame, &mut row);
+pub fn fit_ar_lag(planes: &Planes<'_>) -> Answer {
+    let case = &planes.case;
     let lag = case.argument as usize;
     let fit = Fit::from(fit::fit_ar_lag(case.shape(), &planes.frame_pair(), lag));
     let digest = Digest::default()

@@ -20,7 +20,7 @@ pub const ROW: usize = 6 * ROOM;
 // that no call runs out of it.
 #[derive(Clone, Copy)]
 pub struct Planes<'a> {
-    case: Case,
+    pub case: Case,
     layout: Layout,
     row: &'a [u16; ROW],
 }

@@ -1,6 +1,6 @@
 // Why a call is refused.
-ghost use Rattle.std.specs.Prelude.{◌≡◌};
-ghost use Rattle.frame.specs.Refusal.{number, number_of};
+ghost use Rattle.std.specs.Prelude.{◌≡◌, Some};
+ghost use Rattle.frame.specs.Refusal.{number, number_of, words};
 
 use std::error::Error;
 use std::fmt;
@@ -41,6 +41,8 @@ pub fn number_of<T>(outcome: &Result<T, Refusal>) -> u32
 }
 
 impl fmt::Display for Refusal {
+    ghost output = { λ refusal. Some (words refusal) };
+
     fn fmt<W: fmt::Write>(&self, f: &mut fmt::Formatter<W>) -> fmt::Result {
         let words = match self {
             Refusal::SideAbove4096 => "width and height must each be at most 4,096",
